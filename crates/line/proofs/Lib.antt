@@ -1,0 +1,4 @@
+-- The laws that the proofs of this library and of those above it share.
+pub mod Either
+pub mod Levels
+pub mod Filled

@@ -1,0 +1,5 @@
+pub mod Places
+pub mod Slots
+pub mod Winner
+pub mod Loops
+pub mod Verdict

@@ -1,0 +1,11 @@
+use Rattle.line.specs.Contest.{inRange}
+use borrow.Author.Needs.{needs}
+use Rattle.line.proofs.contest.Contender.in_range.Statement.{statement}
+use Rattle.line.proofs.contest.Contender.in_range.Tie as tie
+
+pub in-range-spec : {M : Type 1} → statement M
+unfolding inRange
+in-range-spec =
+    tie.close
+    (tie.spec
+    (λ c. search needs))

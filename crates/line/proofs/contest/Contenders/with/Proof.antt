@@ -1,0 +1,13 @@
+use borrow.Author.Tests.{lt-ltb, le-ltb}
+use borrow.Author.Needs.{needs}
+use Rattle.line.proofs.contest.Contenders.with.Statement.{statement}
+use Rattle.line.proofs.contest.Contenders.with.Tie as tie
+
+pub with-spec : {M : Type 1} → statement M
+with-spec =
+    tie.close
+    (tie.spec
+    (λ c. search needs)
+    (λ c. search needs)
+    (λ c. simp (lt-ltb _ _ (c .if1 .taken)))
+    (λ c. simp (le-ltb _ _ (c .if1 .left))))

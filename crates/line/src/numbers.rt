@@ -1,0 +1,92 @@
+// The figures of document 01, each named once for the code of every library. `specs/Numbers.antt` names them for the
+// definitions; the proofs fail where the two differ.
+
+// Words: the kind is in the top four bits, "0, slot", "1, register write", "2, register read", then the answers.
+pub const KIND_SLOT: u32 = 0;
+
+pub const KIND_WRITE: u32 = 1;
+
+pub const KIND_READ: u32 = 2;
+
+pub const KIND_TAKEN: u32 = 8;
+
+pub const KIND_WRITTEN: u32 = 9;
+
+pub const KIND_VALUE: u32 = 10;
+
+pub const KIND_REFUSED: u32 = 15;
+
+// A slot word: "bits 1-0 are 0 or 1 (settled level), 2 (start), 3 (idle)".
+pub const SLOT_LOW: u32 = 0;
+
+pub const SLOT_HIGH: u32 = 1;
+
+pub const SLOT_START: u32 = 2;
+
+pub const SLOT_IDLE: u32 = 3;
+
+// "what the unit drives in the next slot: 0, 1 (released) or 2 (start)".
+pub const DRIVE_LOW: u32 = 0;
+
+pub const DRIVE_RELEASED: u32 = 1;
+
+pub const DRIVE_START: u32 = 2;
+
+// Refused because of the input.
+pub const REFUSED_KIND: u8 = 1;
+
+pub const REFUSED_STRAY_BIT: u8 = 2;
+
+pub const REFUSED_REGISTER: u8 = 3;
+
+pub const REFUSED_VALUE: u8 = 4;
+
+pub const REFUSED_BYTE_COUNT: u8 = 11;
+
+pub const REFUSED_SHORT_LIST: u8 = 12;
+
+pub const REFUSED_CONTENDER_COUNT: u8 = 13;
+
+pub const REFUSED_CONTENDER_RANGE: u8 = 14;
+
+pub const REFUSED_CONTENDERS_ALIKE: u8 = 15;
+
+// Refused because of the state.
+pub const REFUSED_LEVEL: u8 = 5;
+
+pub const REFUSED_OUT_OF_TURN: u8 = 6;
+
+pub const REFUSED_FULL: u8 = 7;
+
+pub const REFUSED_TOO_FEW: u8 = 8;
+
+pub const REFUSED_EMPTY: u8 = 9;
+
+pub const REFUSED_UNABLE: u8 = 10;
+
+// Frame: "45 slots and 10 per attempt", "length 00H means 256", "at most 16 attempts (mode 0) or 32 (mode 1)".
+pub const HEADER_SLOTS: u16 = 45;
+
+pub const ATTEMPT_SLOTS: u16 = 10;
+
+pub const LENGTH_OF_ZERO: u16 = 256;
+
+pub const ATTEMPTS_MODE_0: u8 = 16;
+
+pub const ATTEMPTS_MODE_1: u8 = 32;
+
+pub const GENERAL_BROADCAST: u16 = 0xFFF;
+
+// Buffers: "TBF, 33 bytes", "RBF, 40 bytes".
+pub const TBF_BYTES: usize = 33;
+
+pub const RBF_BYTES: usize = 40;
+
+// The contest: at most 50 contenders, an address of twelve bits, lost in slots "2 to 14, start being 1".
+pub const MOST_CONTENDERS: usize = 50;
+
+pub const HIGHEST_ADDRESS: u16 = 0xFFF;
+
+pub const CONTEST_SLOTS: u32 = 13;
+
+pub const LAST_CONTEST_SLOT: u32 = 14;
