@@ -19,4 +19,5 @@ same-or-not a b = ⊎-elim (λ t. inl (eqb-true a b t)) (λ f. inr (eqb-false a 
 -- two tests for equality that hold together come out alike
 pub eqb-alike : (a b c d : ℕ) → (a ≡ b → c ≡ d) → (c ≡ d → a ≡ b) → eqb a b ≡ eqb c d
 eqb-alike a b c d f g =
-    ⊎-elim (λ e. eq-eqb a b e ∙ sym (eq-eqb c d (f e))) (λ n. ne-eqb a b n ∙ sym (ne-eqb c d (λ e. n (g e)))) (same-or-not a b)
+    ⊎-elim (λ e. eq-eqb a b e ∙ sym (eq-eqb c d (f e))) (λ n. ne-eqb a b n ∙ sym (ne-eqb c d (λ e. n (g e))))
+    (same-or-not a b)

@@ -18,7 +18,8 @@ module _ {A : Type 0} where
   nothing-filled whole first = record { split = refl; kept = refl; long = refl }
 
   -- one store at the next place
-  pub one-filled : {whole first now rest : List A} {i : ℕ} (v : A) → Filled whole first now (v ∷ rest) i → i < length now
+  pub one-filled : {whole first now rest : List A} {i : ℕ} (v : A) → Filled whole first now (v ∷ rest) i
+      → i < length now
       → Filled whole first (set now i v) rest (i + 1)
   one-filled {whole} {first} {now} {rest} {i} v f room =
       record {

@@ -2,4 +2,4 @@ pub mod Places
 pub mod Slots
 pub mod Winner
 pub mod Loops
-pub mod Verdict
+pub mod Endings

@@ -37,13 +37,16 @@ broadcast a = record { bit = 0; address = a }
 abbrev pub ordinary : ℕ → Contender
 ordinary a = record { bit = 1; address = a }
 
--- "parity of 525H is 1, of 000H is 0"; "0FFH beats 100H, which loses in slot 6; broadcast FFFH beats ordinary 000H, which
+-- "parity of 525H is 1, of 000H is 0"; "0FFH beats 100H, which loses in slot 6; broadcast FFFH beats ordinary 000H,
+-- which
 -- loses in slot 2"
 unfoldable pub lineCases : List Case
 lineCases =
     (parityOf 0x525 ∷ parityOf 0x000 ∷ [] gives 1 ∷ 0 ∷ [])
-    ∷ (winnerOf (ordinary 0x100 ∷ ordinary 0x0FF ∷ []) ∷ lossesOf (ordinary 0x100 ∷ ordinary 0x0FF ∷ []) gives 1 ∷ 6 ∷ 0 ∷ [])
-    ∷ (winnerOf (ordinary 0x000 ∷ broadcast 0xFFF ∷ []) ∷ lossesOf (ordinary 0x000 ∷ broadcast 0xFFF ∷ []) gives 1 ∷ 2 ∷ 0 ∷ [])
+    ∷ (winnerOf (ordinary 0x100 ∷ ordinary 0x0FF ∷ []) ∷ lossesOf (ordinary 0x100 ∷ ordinary 0x0FF ∷ []) gives 1 ∷ 6
+    ∷ 0 ∷ [])
+    ∷ (winnerOf (ordinary 0x000 ∷ broadcast 0xFFF ∷ []) ∷ lossesOf (ordinary 0x000 ∷ broadcast 0xFFF ∷ []) gives 1 ∷ 2
+    ∷ 0 ∷ [])
     ∷ []
 
 pub line-cases : allGiven lineCases ≡ true

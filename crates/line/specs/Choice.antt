@@ -1,4 +1,5 @@
--- Choosing between two values by a test, and a level as a number: what the definitions of every library are written with.
+-- Choosing between two values by a test, and a level as a number: what the definitions of every library are written
+-- with.
 use mathlib.Core.Bool.{Bool, true, false}
 use Prim.Native.Nat.{ℕ}
 

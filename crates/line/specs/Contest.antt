@@ -9,10 +9,12 @@ use lib.ListN.{length, drop, getD, set, replicate}
 use Rattle.line.specs.Choice.{pick}
 use Rattle.line.specs.Parity.{levelOf}
 use Rattle.line.specs.Numbers.{contestSlots, highestAddress, lastContestSlot, mostContenders}
-use Rattle.line.specs.Numbers.{refusedShortList, refusedContenderCount, refusedContenderRange, refusedContendersAlike}
+use Rattle.line.specs.Numbers.{refusedShortList, refusedContenderCount, refusedContenderRange}
+use Rattle.line.specs.Numbers.{refusedContendersAlike}
 use Rattle.line.specs.declared.contest.Contender.{Contender}
 use Rattle.line.specs.declared.contest.Contenders.{Contenders}
 use Rattle.line.specs.declared.contest.Outcome.{Outcome}
+use Rattle.line.specs.declared.contest.Verdict.{Verdict}
 use Rattle.line.specs.declared.contest.Outcome.the-variants.{Winner, ShortList, WrongCount, OutOfRange, Alike}
 
 -- ---- The contenders: "a lent list of records, each a broadcast bit and an address"
@@ -82,7 +84,8 @@ pub record Twin (cs : List Contender) (place : ℕ) : Type 0 where
 
 -- ---- The slots 2 to 14
 
--- the levels that a contender drives from slot 2 on, read as one number: the broadcast bit, then the twelve of the address
+-- the levels that a contender drives from slot 2 on, read as one number: the broadcast bit, then the twelve of the
+-- address
 unfoldable pub numberOf : Contender → ℕ
 numberOf c = c .bit * 4096 + c .address
 
@@ -117,10 +120,6 @@ winnerOf cs = firstPlace (λ lost. eqb lost 0) (lossesOf cs)
 -- ---- The outcome
 
 -- this paper's number of an outcome, 0 where nothing is refused, and the place that it names, 0 where it names none
-pub record Verdict : Type 0 where
-  pub number : ℕ
-  pub place : ℕ
-
 abbrev pub verdictOf : Outcome → Verdict
 verdictOf (Winner p) = record { number = 0; place = p }
 verdictOf ShortList = record { number = refusedShortList; place = 0 }
@@ -154,12 +153,14 @@ pub record Contested (cs : List Contender) (numbers : List ℕ) (r : Outcome) (a
 abbrev pub Before : Contender → Contender → Type 0
 Before c d = (c .bit < d .bit) ⊎ ((c .bit ≡ d .bit) × (c .address < d .address))
 
--- the contender at a place has lost in no slot, comes before every other one, and each other one has lost in some slot
+-- the contender at a place has lost in no slot, comes before every other one, and each other one has lost in some
+-- slot
 pub record Wins (cs : List Contender) (place : ℕ) : Type 0 where
   pub within : place < length cs
   pub unbeaten : getD (lossesOf cs) place 0 ≡ 0
   pub before : (i : ℕ) → i < length cs → (i ≡ place → ⊥) → Before (getD cs place nobody) (getD cs i nobody)
-  pub alone : (i : ℕ) → i < length cs → (i ≡ place → ⊥) → (2 ≤ getD (lossesOf cs) i 0) × (getD (lossesOf cs) i 0 ≤ lastContestSlot)
+  pub alone : (i : ℕ) → i < length cs → (i ≡ place → ⊥)
+      → (2 ≤ getD (lossesOf cs) i 0) × (getD (lossesOf cs) i 0 ≤ lastContestSlot)
 
 -- where a contest has a winner, it is the least of all and alone
 abbrev pub WonRightly : List Contender → Outcome → Type 0

@@ -3,13 +3,17 @@
 ghost use mathlib.Core.Path.{_≡_};
 ghost use Prim.Native.Nat.{_<_, _≤_};
 ghost use lib.ListN.{length};
-ghost use Rattle.line.specs.Contest.{Contested, WonRightly, noContenders, withContender, contendersOf};
+ghost use Rattle.line.specs.Contest.{Contested, WonRightly, noContenders, withContender, contendersOf, verdictOf};
 ghost use Rattle.line.specs.Contest.{alike, firstAlikeFrom, firstOut, firstTwin, inRange, numberOf};
 ghost use Rattle.line.specs.Deciding.{Fair, Least, Losses, differs};
 use crate::numbers::CONTEST_SLOTS;
 use crate::numbers::HIGHEST_ADDRESS;
 use crate::numbers::LAST_CONTEST_SLOT;
 use crate::numbers::MOST_CONTENDERS;
+use crate::numbers::REFUSED_CONTENDER_COUNT;
+use crate::numbers::REFUSED_CONTENDER_RANGE;
+use crate::numbers::REFUSED_CONTENDERS_ALIKE;
+use crate::numbers::REFUSED_SHORT_LIST;
 
 // A master's broadcast bit (0 is broadcast) and its address.
 #[repr(C)]
@@ -32,6 +36,38 @@ pub enum Outcome {
     WrongCount,
     OutOfRange(usize),
     Alike(usize),
+}
+
+// What document 01 says for an outcome: the refusal's number, 0 where there is none, and the place named, 0 where none is.
+pub struct Verdict {
+    pub number: u8,
+    pub place: usize,
+}
+
+impl Outcome {
+    pub fn verdict(self) -> Verdict
+        ensures { λ r. ⌜ r ≡ verdictOf self ⌝ }
+    {
+        match self {
+            Outcome::Winner(place) => Verdict { number: 0, place },
+            Outcome::ShortList => Verdict {
+                number: REFUSED_SHORT_LIST,
+                place: 0,
+            },
+            Outcome::WrongCount => Verdict {
+                number: REFUSED_CONTENDER_COUNT,
+                place: 0,
+            },
+            Outcome::OutOfRange(place) => Verdict {
+                number: REFUSED_CONTENDER_RANGE,
+                place,
+            },
+            Outcome::Alike(place) => Verdict {
+                number: REFUSED_CONTENDERS_ALIKE,
+                place,
+            },
+        }
+    }
 }
 
 impl Contender {
@@ -165,9 +201,9 @@ impl Contenders {
         requires { ⌜ (self .count ≤ 50) × (self .count ≤ length (now lost)) ⌝ }
         ensures { λ _. ⌜ Losses winner (contendersOf self) (now (lost .entry)) (now (lost .exit)) ⌝ }
     {
-        let count = self.count;
+        let end = self.count;
         let mut i: usize = 0;
-        while i < count {
+        while i < end {
             let contender = self.list[i];
             lost[i] = lost_in(winner, contender.number());
             i += 1;

@@ -17,20 +17,24 @@ use Rattle.line.specs.Deciding.{differs, differences, Least, Losses}
 use Rattle.line.specs.declared.contest.Contender.{Contender}
 use Rattle.line.specs.declared.contest.Contenders.{Contenders}
 use Rattle.line.proofs.Filled.{Filled, nothing-filled, one-filled, all-filled}
-use Rattle.line.proofs.contest.Places.{length-firstOf, getD-firstOf, Passed, passed-none, passed-one, passed-here, passed-all, twin-here, twin-later, twin-nil}
+use Rattle.line.proofs.contest.Places.{length-firstOf, getD-firstOf, Passed, passed-none, passed-one}
+use Rattle.line.proofs.contest.Places.{passed-here, passed-all, twin-here, twin-later, twin-nil}
 
 pub contenders-length : (all : Contenders) → length (contendersOf all) ≡ all .count
 unfolding contendersOf
 contenders-length all = length-firstOf (all .count) (all .list)
 
-pub contender-at : (all : Contenders) (i : ℕ) → i < all .count → getD (contendersOf all) i nobody ≡ getD (all .list) i nobody
+pub contender-at : (all : Contenders) (i : ℕ) → i < all .count
+    → getD (contendersOf all) i nobody ≡ getD (all .list) i nobody
 unfolding contendersOf
 contender-at all i h = getD-firstOf (all .count) (all .list) i h
 
 -- the contenders from a place on: the one there, and those behind it
-cut : (all : Contenders) (i : ℕ) → i < all .count → drop i (contendersOf all) ≡ getD (all .list) i nobody ∷ drop (i + 1) (contendersOf all)
+cut : (all : Contenders) (i : ℕ) → i < all .count
+    → drop i (contendersOf all) ≡ getD (all .list) i nobody ∷ drop (i + 1) (contendersOf all)
 cut all i h =
-    drop-cons (contendersOf all) i nobody (omega (arith, contenders-length all)) ∙ rw (contender-at all i h, add-one i)
+    drop-cons (contendersOf all) i nobody (omega (arith, contenders-length all))
+    ∙ rw (contender-at all i h, add-one i)
 
 -- ---- lost_in: n slots are still to be compared
 
@@ -48,7 +52,11 @@ differs-suc w x n h = let e : n ≡ suc (n - 1) = omega arith in ap (λ (k : ℕ
 pub compared-one : {w x n : ℕ} → Compared w x n → 0 < n → levelOf (n - 1) x ≡ levelOf (n - 1) w → Compared w x (n - 1)
 unfolding differs
 compared-one {w} {x} {n} c h e =
-    record { left = omega (arith, c .left); same = c .same ∙ differs-suc w x n h ∙ simp (eq-eqb (levelOf (n - 1) x) (levelOf (n - 1) w) e) }
+    record {
+      left = omega (arith, c .left);
+      same = c .same ∙ differs-suc w x n h
+          ∙ simp (eq-eqb (levelOf (n - 1) x) (levelOf (n - 1) w) e);
+    }
 
 pub compared-here : {w x n : ℕ} → Compared w x n → 0 < n → (levelOf (n - 1) x ≡ levelOf (n - 1) w → ⊥)
     → lastContestSlot - (n - 1) ≡ differs contestSlots w x
@@ -70,17 +78,24 @@ module _ (test : Contender → Bool) (all : Contenders) where
   pub sought-none : Sought (firstPlace test (contendersOf all)) 0
   sought-none = record { passed = passed-none test (contendersOf all); within = omega arith }
 
-  pub sought-from : (from : ℕ) → from ≤ all .count → Sought (from + firstPlace test (drop from (contendersOf all))) from
-  sought-from from h = record { passed = record { ahead = refl; within = omega (arith, contenders-length all) }; within = h }
+  pub sought-from : (from : ℕ) → from ≤ all .count
+      → Sought (from + firstPlace test (drop from (contendersOf all))) from
+  sought-from from h = record {
+    passed = record { ahead = refl; within = omega (arith, contenders-length all) };
+    within = h;
+  }
 
-  pub sought-one : {found i : ℕ} → Sought found i → i < all .count → test (getD (all .list) i nobody) ≡ false → Sought found (i + 1)
+  pub sought-one : {found i : ℕ} → Sought found i → i < all .count → test (getD (all .list) i nobody) ≡ false
+      → Sought found (i + 1)
   sought-one {found} {i} s h e =
       record {
-        passed = passed-one test nobody (s .passed) (omega (arith, contenders-length all)) (rw (contender-at all i h) e);
+        passed = passed-one test nobody (s .passed) (omega (arith, contenders-length all))
+            (rw (contender-at all i h) e);
         within = omega arith;
       }
 
-  pub sought-here : {found i : ℕ} → Sought found i → i < all .count → test (getD (all .list) i nobody) ≡ true → i ≡ found
+  pub sought-here : {found i : ℕ} → Sought found i → i < all .count → test (getD (all .list) i nobody) ≡ true
+      → i ≡ found
   sought-here {found} {i} s h e =
       passed-here test nobody (s .passed) (omega (arith, contenders-length all)) (rw (contender-at all i h) e)
 
@@ -100,7 +115,8 @@ module _ {all : Contenders} {i : ℕ} (u : Untwinned all i) (h : i < all .count)
   left-over : length (drop (i + 1) (contendersOf all)) ≡ all .count - (i + 1)
   left-over = length-drop (i + 1) (contendersOf all) ∙ rw (contenders-length all)
 
-  pub untwinned-one : all .count ≤ firstAlikeFrom (getD (all .list) i nobody) (i + 1) (contendersOf all) → Untwinned all (i + 1)
+  pub untwinned-one : all .count ≤ firstAlikeFrom (getD (all .list) i nobody) (i + 1) (contendersOf all)
+      → Untwinned all (i + 1)
   untwinned-one none =
       record {
         ahead =
@@ -113,7 +129,8 @@ module _ {all : Contenders} {i : ℕ} (u : Untwinned all i) (h : i < all .count)
         within = omega arith;
       }
 
-  pub twin-at : firstAlikeFrom (getD (all .list) i nobody) (i + 1) (contendersOf all) < all .count → i ≡ firstTwin (contendersOf all)
+  pub twin-at : firstAlikeFrom (getD (all .list) i nobody) (i + 1) (contendersOf all) < all .count
+      → i ≡ firstTwin (contendersOf all)
   twin-at some =
       omega (
         arith,
@@ -124,7 +141,13 @@ module _ {all : Contenders} {i : ℕ} (u : Untwinned all i) (h : i < all .count)
 
 pub untwinned-all : {all : Contenders} {i : ℕ} → Untwinned all i → all .count ≤ i → i ≡ firstTwin (contendersOf all)
 untwinned-all {all} {i} u h =
-    omega (arith, u .ahead, ap firstTwin (drop-of-length-le (contendersOf all) {i = i} (omega (arith, contenders-length all))), twin-nil)
+    omega (
+      arith,
+      u .ahead,
+      ap firstTwin (drop-of-length-le (contendersOf all) {i = i}
+          (omega (arith, contenders-length all))),
+      twin-nil,
+    )
 
 -- ---- least
 
@@ -135,7 +158,12 @@ pub record LeastOf (all : Contenders) (place i : ℕ) : Type 0 where
   pub low : (k : ℕ) → k < i → numberOf (getD (all .list) place nobody) ≤ numberOf (getD (all .list) k nobody)
 
 pub least-one : (all : Contenders) → 0 < all .count → LeastOf all 0 1
-least-one all h = record { within = omega arith; counted = h; low = λ k l. let z : k ≡ 0 = omega arith in rw z (omega arith) }
+least-one all h = record {
+  within = omega arith;
+  counted = h;
+  low = λ k l. let z : k
+      ≡ 0 = omega arith in rw z (omega arith);
+}
 
 pub least-stays : {all : Contenders} {place i : ℕ} → LeastOf all place i → i < all .count
     → numberOf (getD (all .list) place nobody) ≤ numberOf (getD (all .list) i nobody) → LeastOf all place (i + 1)
@@ -143,7 +171,8 @@ least-stays {all} {place} {i} l h le =
     record {
       within = omega (arith, l .within);
       counted = omega arith;
-      low = below-more (λ (k : ℕ). numberOf (getD (all .list) place nobody) ≤ numberOf (getD (all .list) k nobody)) i (l .low) le;
+      low = below-more (λ (k : ℕ). numberOf (getD (all .list) place nobody) ≤ numberOf (getD (all .list) k nobody)) i
+          (l .low) le;
     }
 
 pub least-changes : {all : Contenders} {place i : ℕ} → LeastOf all place i → i < all .count
@@ -157,12 +186,17 @@ least-changes {all} {place} {i} l h lt =
           (λ k below. omega (arith, l .low k below)) (omega arith);
     }
 
-pub least-of-all : {all : Contenders} {place i : ℕ} → LeastOf all place i → all .count ≤ i → Least (contendersOf all) place
+pub least-of-all : {all : Contenders} {place i : ℕ} → LeastOf all place i → all .count ≤ i
+    → Least (contendersOf all) place
 least-of-all {all} {place} {i} l h =
     record {
       within = omega (arith, l .within, l .counted, contenders-length all);
       low = λ k below.
-          rw (contender-at all place (omega (arith, l .within, l .counted)), contender-at all k (omega (arith, contenders-length all)))
+          rw (
+            contender-at all place (omega (arith, l .within, l .counted)),
+            contender-at all k
+                (omega (arith, contenders-length all)),
+          )
           (l .low k (omega (arith, contenders-length all)));
     }
 
@@ -173,14 +207,21 @@ pub record Written (w : ℕ) (all : Contenders) (first now : List ℕ) (i : ℕ)
   pub within : i ≤ all .count
 
 pub written-none : (w : ℕ) (all : Contenders) (first : List ℕ) → Written w all first first 0
-written-none w all first = record { filled = nothing-filled (differences w (contendersOf all)) first; within = omega arith }
+written-none w all first = record {
+  filled = nothing-filled
+      (differences w (contendersOf all)) first;
+  within = omega arith;
+}
 
-pub written-one : {w : ℕ} {all : Contenders} {first now : List ℕ} {i : ℕ} (v : ℕ) → Written w all first now i → i < all .count
-    → i < length now → v ≡ differs contestSlots w (numberOf (getD (all .list) i nobody)) → Written w all first (set now i v) (i + 1)
+pub written-one : {w : ℕ} {all : Contenders} {first now : List ℕ} {i : ℕ} (v : ℕ) → Written w all first now i
+    → i < all .count
+    → i < length now → v ≡ differs contestSlots w (numberOf (getD (all .list) i nobody))
+    → Written w all first (set now i v) (i + 1)
 unfolding differences
 written-one {w} {all} {first} {now} {i} v d h room e =
     let next : differences w (drop i (contendersOf all)) ≡ v ∷ differences w (drop (i + 1) (contendersOf all))
-    = ap (differences w) (cut all i h) ∙ ap (λ (k : ℕ). k ∷ differences w (drop (i + 1) (contendersOf all))) (sym e) in
+    = ap (differences w) (cut all i h) ∙ ap (λ (k : ℕ). k ∷ differences w (drop (i + 1) (contendersOf all)))
+    (sym e) in
     record { filled = one-filled v (rw next at (d .filled)) room; within = omega arith }
 
 pub written-all : {w : ℕ} {all : Contenders} {first now : List ℕ} {i : ℕ} → Written w all first now i → all .count ≤ i

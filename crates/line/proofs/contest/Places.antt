@@ -46,13 +46,16 @@ module _ {A : Type 0} (test : A → Bool) where
   pub first-le : (xs : List A) → firstPlace test xs ≤ length xs
   first-le [] = omega (arith, first-nil)
   first-le (x ∷ xs) =
-      ⊎-elim (λ t. omega (arith, first-here xs t)) (λ f. omega (arith, first-later xs f, first-le xs)) (either (test x))
+      ⊎-elim (λ t. omega (arith, first-here xs t)) (λ f. omega (arith, first-later xs f, first-le xs))
+      (either (test x))
 
   -- the place found holds what was looked for, and no place before it does
-  pub first-holds : (xs : List A) (d : A) → firstPlace test xs < length xs → test (getD xs (firstPlace test xs) d) ≡ true
+  pub first-holds : (xs : List A) (d : A) → firstPlace test xs < length xs
+      → test (getD xs (firstPlace test xs) d) ≡ true
   first-holds [] d h = absurd (omega (arith, first-nil))
   first-holds (x ∷ xs) d h =
-      ⊎-elim (λ t. rw (first-here xs t) t) (λ f. rw (first-later xs f, add-one) (first-holds xs d (omega (arith, first-later xs f))))
+      ⊎-elim (λ t. rw (first-here xs t) t) (λ f. rw (first-later xs f, add-one)
+      (first-holds xs d (omega (arith, first-later xs f))))
       (either (test x))
 
   pub first-none : (xs : List A) (d : A) (i : ℕ) → i < firstPlace test xs → test (getD xs i d) ≡ false
@@ -67,16 +70,19 @@ module _ {A : Type 0} (test : A → Bool) where
     pub ahead : found ≡ i + firstPlace test (drop i xs)
     pub within : i ≤ length xs
 
-  pub passed-one : {xs : List A} {found i : ℕ} (d : A) → Passed xs found i → i < length xs → test (getD xs i d) ≡ false
+  pub passed-one : {xs : List A} {found i : ℕ} (d : A) → Passed xs found i → i < length xs
+      → test (getD xs i d) ≡ false
       → Passed xs found (i + 1)
   passed-one {xs} {found} {i} d p h e =
       let next : firstPlace test (drop i xs) ≡ firstPlace test (drop (i + 1) xs) + 1
       = ap (firstPlace test) (drop-cons xs i d h) ∙ first-later (drop (suc i) xs) e ∙ rw (add-one i) in
       record { ahead = omega (arith, p .ahead, next); within = omega arith }
 
-  pub passed-here : {xs : List A} {found i : ℕ} (d : A) → Passed xs found i → i < length xs → test (getD xs i d) ≡ true → i ≡ found
+  pub passed-here : {xs : List A} {found i : ℕ} (d : A) → Passed xs found i → i < length xs
+      → test (getD xs i d) ≡ true → i ≡ found
   passed-here {xs} {found} {i} d p h e =
-      let here : firstPlace test (drop i xs) ≡ 0 = ap (firstPlace test) (drop-cons xs i d h) ∙ first-here (drop (suc i) xs) e in
+      let here : firstPlace test (drop i xs) ≡ 0 = ap (firstPlace test) (drop-cons xs i d h)
+      ∙ first-here (drop (suc i) xs) e in
       omega (arith, p .ahead, here)
 
   pub passed-all : {xs : List A} {found i : ℕ} → Passed xs found i → length xs ≤ i → i ≡ found
@@ -102,7 +108,8 @@ pub twin-here : (c : Contender) (cs : List Contender) → firstPlace (alike c) c
 unfolding firstTwin
 twin-here c cs h = simp (lt-ltb _ _ h)
 
-pub twin-later : (c : Contender) (cs : List Contender) → length cs ≤ firstPlace (alike c) cs → firstTwin (c ∷ cs) ≡ firstTwin cs + 1
+pub twin-later : (c : Contender) (cs : List Contender) → length cs ≤ firstPlace (alike c) cs
+    → firstTwin (c ∷ cs) ≡ firstTwin cs + 1
 unfolding firstTwin
 twin-later c cs h = simp (le-ltb _ _ h)
 
@@ -145,5 +152,6 @@ no-twin (c ∷ cs) zero (suc j) none lt h =
     ⊎-elim (λ y. absurd (omega (arith, twin-here c cs y))) (λ n. first-none (alike c) cs nobody j (omega arith))
     (below-or-not (firstPlace (alike c) cs) (length cs))
 no-twin (c ∷ cs) (suc i) (suc j) none lt h =
-    ⊎-elim (λ y. absurd (omega (arith, twin-here c cs y))) (λ n. no-twin cs i j (omega (arith, twin-later c cs n)) (omega arith) (omega arith))
+    ⊎-elim (λ y. absurd (omega (arith, twin-here c cs y)))
+    (λ n. no-twin cs i j (omega (arith, twin-later c cs n)) (omega arith) (omega arith))
     (below-or-not (firstPlace (alike c) cs) (length cs))

@@ -1,4 +1,5 @@
--- The slots 2 to 14: where w is the lowest of all, each slot settles at w's level, so a contender loses in the first slot
+-- The slots 2 to 14: where w is the lowest of all, each slot settles at w's level, so a contender loses in the first
+-- slot
 -- in which it differs from w.
 use mathlib.Core.Bool.{Bool, true, false}
 use mathlib.Core.Logic.{_⊎_, inl, inr, ⊎-elim}
@@ -65,20 +66,34 @@ remain-close n w (x ∷ xs) cs =
 
 remain-among : (n w : ℕ) (xs : List ℕ) → Among w xs → Among w (remaining n (levelOf n w) xs)
 unfolding remaining
-remain-among n w (x ∷ xs) (inl e) = simp (le-ltb (levelOf n w) (levelOf n x) (omega (arith, ap (levelOf n) e))) (inl e)
+remain-among n w (x ∷ xs) (inl e) = simp (le-ltb (levelOf n w) (levelOf n x) (omega (arith, ap (levelOf n) e)))
+    (inl e)
 remain-among n w (x ∷ xs) (inr a) =
-    ⊎-elim (λ lt. simp (lt-ltb (levelOf n w) (levelOf n x) lt) (remain-among n w xs a)) (λ le. simp (le-ltb (levelOf n w) (levelOf n x) le) (inr (remain-among n w xs a)))
+    ⊎-elim (λ lt. simp (lt-ltb (levelOf n w) (levelOf n x) lt) (remain-among n w xs a))
+    (λ le. simp (le-ltb (levelOf n w) (levelOf n x) le) (inr (remain-among n w xs a)))
     (below-or-not (levelOf n w) (levelOf n x))
 
 -- a contender loses where it first differs from the lowest
-pub loss-differs : (n w : ℕ) (xs : List ℕ) (x : ℕ) → AllClose n w xs → Among w xs → Close n w x → lossOf n xs x ≡ differs n w x
+pub loss-differs : (n w : ℕ) (xs : List ℕ) (x : ℕ) → AllClose n w xs → Among w xs → Close n w x
+    → lossOf n xs x ≡ differs n w x
 unfolding lossOf differs
 loss-differs zero w xs x cs a c = refl
 loss-differs (suc n) w xs x cs a c =
     ⊎-elim
-    (λ lt. simp (settled-is n w xs cs a, lt-ltb (levelOf n w) (levelOf n x) lt, ne-eqb (levelOf n x) (levelOf n w) (λ e. omega arith)))
-    (λ le. simp (settled-is n w xs cs a, le-ltb (levelOf n w) (levelOf n x) le, eq-eqb (levelOf n x) (levelOf n w) (omega (arith, close-level c)))
-    (loss-differs n w (remaining n (levelOf n w) xs) x (remain-close n w xs cs) (remain-among n w xs a) (close-next c le)))
+    (λ lt. simp (
+      settled-is n w xs cs a,
+      lt-ltb (levelOf n w) (levelOf n x) lt,
+      ne-eqb (levelOf n x) (levelOf n w)
+          (λ e. omega arith),
+    ))
+    (λ le. simp (
+      settled-is n w xs cs a,
+      le-ltb (levelOf n w) (levelOf n x) le,
+      eq-eqb (levelOf n x) (levelOf n w)
+          (omega (arith, close-level c)),
+    )
+    (loss-differs n w (remaining n (levelOf n w) xs) x (remain-close n w xs cs) (remain-among n w xs a)
+    (close-next c le)))
     (below-or-not (levelOf n w) (levelOf n x))
 
 -- nobody differs from itself; who differs in no slot is the same; and the slot is one of 2 to 14
@@ -92,11 +107,14 @@ unfolding differs
 differs-none zero w x h e d = omega arith
 differs-none (suc n) w x h e d =
     ⊎-elim
-    (λ same. differs-none n w x (omega arith) (omega (arith, level-split n w, level-split n x)) (simp (eq-eqb (levelOf n x) (levelOf n w) same) at d))
-    (λ other. absurd (let z : lastContestSlot - n ≡ 0 = simp (ne-eqb (levelOf n x) (levelOf n w) other) at d in omega arith))
+    (λ same. differs-none n w x (omega arith) (omega (arith, level-split n w, level-split n x))
+    (simp (eq-eqb (levelOf n x) (levelOf n w) same) at d))
+    (λ other. absurd (let z : lastContestSlot - n ≡ 0 = simp
+    (ne-eqb (levelOf n x) (levelOf n w) other) at d in omega arith))
     (same-or-not (levelOf n x) (levelOf n w))
 
-pub differs-slot : (n w x : ℕ) → n ≤ 13 → (differs n w x ≡ 0) ⊎ ((2 ≤ differs n w x) × (differs n w x ≤ lastContestSlot))
+pub differs-slot : (n w x : ℕ) → n ≤ 13 → (differs n w x ≡ 0)
+    ⊎ ((2 ≤ differs n w x) × (differs n w x ≤ lastContestSlot))
 unfolding differs
 differs-slot zero w x h = inl refl
 differs-slot (suc n) w x h =

@@ -1,4 +1,5 @@
--- The winner of a contest: who is the lowest of contenders that are in range, no two of them alike, is the only one that
+-- The winner of a contest: who is the lowest of contenders that are in range, no two of them alike, is the only one
+-- that
 -- the slots leave, and comes before all others.
 use mathlib.Core.Bool.{Bool, true, false, _&&_}
 use mathlib.Core.Logic.{_⊎_, inl, inr, ⊎-elim}
@@ -11,12 +12,14 @@ use borrow.Author.Tests.{eq-eqb, ne-eqb, leb-true, not-false}
 use lib.Dec.{T, eqb, leb}
 use lib.ListN.{length, getD, length-map}
 use Rattle.line.specs.Numbers.{contestSlots, highestAddress, lastContestSlot}
-use Rattle.line.specs.Contest.{nobody, inRange, outOfRange, alike, firstPlace, firstOut, firstTwin, numberOf, lossOf, lossesOf, winnerOf, Before, Wins}
+use Rattle.line.specs.Contest.{nobody, inRange, outOfRange, alike, firstPlace, firstOut, firstTwin, numberOf}
+use Rattle.line.specs.Contest.{lossOf, lossesOf, winnerOf, Before, Wins}
 use Rattle.line.specs.Deciding.{differs, differences, Fair, Least}
 use Rattle.line.specs.declared.contest.Contender.{Contender}
 use Rattle.line.proofs.Either.{below-or-not}
 use Rattle.line.proofs.contest.Places.{first-none, first-is, no-twin}
-use Rattle.line.proofs.contest.Slots.{Close, AllClose, Among, loss-differs, differs-self, differs-none, differs-slot}
+use Rattle.line.proofs.contest.Slots.{Close, AllClose, Among, loss-differs, differs-self, differs-none}
+use Rattle.line.proofs.contest.Slots.{differs-slot}
 
 -- ---- one contender and two
 
@@ -64,13 +67,15 @@ among [] i h = absurd (omega arith)
 among (c ∷ cs) zero h = inl refl
 among (c ∷ cs) (suc i) h = inr (among cs i (omega arith))
 
-getD-mapped : (f : Contender → ℕ) (cs : List Contender) (i : ℕ) → i < length cs → getD (map f cs) i 0 ≡ f (getD cs i nobody)
+getD-mapped : (f : Contender → ℕ) (cs : List Contender) (i : ℕ) → i < length cs
+    → getD (map f cs) i 0 ≡ f (getD cs i nobody)
 getD-mapped f [] i h = absurd (omega arith)
 getD-mapped f (c ∷ cs) zero h = refl
 getD-mapped f (c ∷ cs) (suc i) h = getD-mapped f cs i (omega arith)
 
 mapped-alike : (f : ℕ → ℕ) (g : Contender → ℕ) (cs : List Contender)
-    → ((i : ℕ) → i < length cs → f (numberOf (getD cs i nobody)) ≡ g (getD cs i nobody)) → map f (map numberOf cs) ≡ map g cs
+    → ((i : ℕ) → i < length cs → f (numberOf (getD cs i nobody)) ≡ g (getD cs i nobody))
+    → map f (map numberOf cs) ≡ map g cs
 mapped-alike f g [] e = refl
 mapped-alike f g (c ∷ cs) e = rw (e 0 (omega arith), mapped-alike f g cs (λ i h. e (suc i) (omega arith)))
 
@@ -86,24 +91,28 @@ module _ (cs : List Contender) (p : ℕ) (fair : Fair cs) (least : Least cs p) w
 
   ranged-at : (i : ℕ) → i < length cs → Ranged (getD cs i nobody)
   ranged-at i h =
-      ranged (getD cs i nobody) (not-false (inRange (getD cs i nobody)) (first-none outOfRange cs nobody i (omega (arith, fair .in-range))))
+      ranged (getD cs i nobody) (not-false (inRange (getD cs i nobody))
+      (first-none outOfRange cs nobody i (omega (arith, fair .in-range))))
 
   close-at : (i : ℕ) → i < length cs → Close 13 w (numberOf (getD cs i nobody))
   close-at i h =
       record {
         low = least .low i h;
-        alike = div-eq-of-lt (number-lt (ranged-at i h)) ∙ sym (div-eq-of-lt (number-lt (ranged-at p (least .within))));
+        alike = div-eq-of-lt (number-lt (ranged-at i h))
+            ∙ sym (div-eq-of-lt (number-lt (ranged-at p (least .within))));
       }
 
   pub losses-are : lossesOf cs ≡ differences w cs
   unfolding lossesOf differences
   losses-are =
       mapped-alike (lossOf 13 (map numberOf cs)) (λ (c : Contender). differs 13 w (numberOf c)) cs
-      (λ i h. loss-differs 13 w (map numberOf cs) (numberOf (getD cs i nobody)) (all-close 13 w cs close-at) (among cs p (least .within)) (close-at i h))
+      (λ i h. loss-differs 13 w (map numberOf cs) (numberOf (getD cs i nobody)) (all-close 13 w cs close-at)
+      (among cs p (least .within)) (close-at i h))
 
   loss-at : (i : ℕ) → i < length cs → getD (lossesOf cs) i 0 ≡ differs 13 w (numberOf (getD cs i nobody))
   unfolding differences
-  loss-at i h = ap (λ (l : List ℕ). getD l i 0) losses-are ∙ getD-mapped (λ (c : Contender). differs 13 w (numberOf c)) cs i h
+  loss-at i h = ap (λ (l : List ℕ). getD l i 0) losses-are
+      ∙ getD-mapped (λ (c : Contender). differs 13 w (numberOf c)) cs i h
 
   -- no other contender has the winner's number
   unequal : (i : ℕ) → i < length cs → (i ≡ p → ⊥) → numberOf (getD cs i nobody) ≡ w → ⊥
@@ -111,8 +120,10 @@ module _ (cs : List Contender) (p : ℕ) (fair : Fair cs) (least : Least cs p) w
       let here = ranged-at i h in
       let there = ranged-at p (least .within) in
       ⊎-elim
-      (λ lt. clash (same-number (getD cs i nobody) (getD cs p nobody) here there e) (no-twin cs i p (fair .unlike) lt (least .within)))
-      (λ le. clash (same-number (getD cs p nobody) (getD cs i nobody) there here (sym e)) (no-twin cs p i (fair .unlike) (omega arith) h))
+      (λ lt. clash (same-number (getD cs i nobody) (getD cs p nobody) here there e)
+      (no-twin cs i p (fair .unlike) lt (least .within)))
+      (λ le. clash (same-number (getD cs p nobody) (getD cs i nobody) there here (sym e))
+      (no-twin cs p i (fair .unlike) (omega arith) h))
       (below-or-not i p)
 
   pub wins : Wins cs p
@@ -126,7 +137,8 @@ module _ (cs : List Contender) (p : ℕ) (fair : Fair cs) (least : Least cs p) w
         alone = λ i h ne.
             rw (loss-at i h)
             (⊎-elim
-            (λ z. absurd (unequal i h ne (differs-none 13 w (numberOf (getD cs i nobody)) (omega arith) (close-at i h .alike) z)))
+            (λ z. absurd (unequal i h ne (differs-none 13 w (numberOf (getD cs i nobody)) (omega arith)
+            (close-at i h .alike) z)))
             (λ slot. slot)
             (differs-slot 13 w (numberOf (getD cs i nobody)) (omega arith)));
       }
@@ -135,4 +147,5 @@ module _ (cs : List Contender) (p : ℕ) (fair : Fair cs) (least : Least cs p) w
   winner-is =
       first-is (λ lost. eqb lost 0) (lossesOf cs) 0 p (omega (arith, least .within, length-losses cs))
       (eq-eqb _ 0 (wins .unbeaten))
-      (λ i lt. ne-eqb (getD (lossesOf cs) i 0) 0 (λ z. omega (arith, wins .alone i (omega (arith, least .within)) (λ e. omega arith) .0)))
+      (λ i lt. ne-eqb (getD (lossesOf cs) i 0) 0 (λ z. omega
+      (arith, wins .alone i (omega (arith, least .within)) (λ e. omega arith) .0)))

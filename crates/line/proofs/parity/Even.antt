@@ -1,4 +1,5 @@
--- Parity, shown once for every width: the count of ones of a field's number is that of its slots, so P makes them even.
+-- Parity, shown once for every width: the count of ones of a field's number is that of its slots, so P makes them
+-- even.
 use mathlib.Core.Bool.{Bool, true, false}
 use mathlib.Core.Path.{_≡_, refl, sym, ap, _∙_}
 use mathlib.Core.List.{List, [], _∷_, _++_}
@@ -8,7 +9,8 @@ use native.Mathlib.Omega.{arith}
 use lib.Count.{ones, onesIn, ones-step}
 use lib.Dec.{eqb}
 use Rattle.line.specs.Choice.{bitOf}
-use Rattle.line.specs.Parity.{parityOf, parityHolds, levelOf, levelsOf, onesAmong, EvenAtEveryWidth, HoldsAtEveryWidth}
+use Rattle.line.specs.Parity.{parityOf, parityHolds, levelOf, levelsOf, onesAmong, EvenAtEveryWidth}
+use Rattle.line.specs.Parity.{HoldsAtEveryWidth}
 use Rattle.line.proofs.Either.{eqb-alike}
 use Rattle.line.proofs.Levels.{half}
 

@@ -13,4 +13,8 @@ parity-holds-spec =
     (tie.spec
     (λ c κs. search needs)
     (λ c. search needs)
-    (λ c. (simp (c .parity .ensures .0), λ width fits. simp (c .parity .ensures .0) (parity-holds (c .before .args .field) (c .before .args .p) width fits))))
+    (λ c. (
+      simp (c .parity .ensures .0),
+      λ width fits. simp (c .parity .ensures .0)
+          (parity-holds (c .before .args .field) (c .before .args .p) width fits),
+    )))

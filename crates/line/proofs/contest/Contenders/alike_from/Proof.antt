@@ -7,7 +7,8 @@ use Rattle.line.proofs.contest.Contenders.alike_from.Statement.{stateme
 use Rattle.line.proofs.contest.Contenders.alike_from.Tie as tie
 
 abbrev Inv-loop : tie.InvT-loop
-Inv-loop contender from self count i₀ i = Sought (alike contender) self (firstAlikeFrom contender from (contendersOf self)) i
+Inv-loop contender from self count i₀ i = Sought (alike contender) self
+    (firstAlikeFrom contender from (contendersOf self)) i
 
 abbrev μ-loop : tie.MeasureT-loop
 μ-loop contender from self count i₀ i = count - i
@@ -22,8 +23,12 @@ alike-from-spec =
     (λ c. search needs)
     (λ c. search needs)
     (λ c κs. search needs)
-    (λ c. sought-here (alike (c .before .before .before .before .before .args .contender)) _ (c .before .before .before .before .loop .inv) (c .before .before .before .loop-test .taken) (sym (c .before .alike .ensures) ∙ c .if1 .taken))
+    (λ c. sought-here (alike (c .before .before .before .before .before .args .contender)) _
+    (c .before .before .before .before .loop .inv) (c .before .before .before .loop-test .taken)
+    (sym (c .before .alike .ensures) ∙ c .if1 .taken))
     (λ c. search needs)
     (λ c. search needs)
-    (λ c. sought-one (alike (c .before .before .before .before .before .args .contender)) _ (c .before .before .before .before .loop .inv) (c .before .before .before .loop-test .taken) (sym (c .before .alike .ensures) ∙ c .if1 .left))
+    (λ c. sought-one (alike (c .before .before .before .before .before .args .contender)) _
+    (c .before .before .before .before .loop .inv) (c .before .before .before .loop-test .taken)
+    (sym (c .before .alike .ensures) ∙ c .if1 .left))
     (λ c. sought-all (alike (c .before .before .args .contender)) _ (c .before .loop .inv) (c .loop-test .left)))

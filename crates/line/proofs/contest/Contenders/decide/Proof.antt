@@ -3,7 +3,7 @@ use native.Mathlib.Omega.{arith}
 use borrow.Author.Needs.{needs}
 use Rattle.line.specs.Contest.{numberOf}
 use Rattle.line.proofs.contest.Loops.{contenders-length, contender-at}
-use Rattle.line.proofs.contest.Verdict.{ends-won}
+use Rattle.line.proofs.contest.Endings.{ends-won}
 use Rattle.line.proofs.contest.Winner.{wins}
 use Rattle.line.proofs.contest.Contenders.decide.Statement.{statement}
 use Rattle.line.proofs.contest.Contenders.decide.Tie as tie
@@ -22,8 +22,10 @@ decide-spec =
     let all = start .args .t1 in
     let count = contenders-length all in
     let least = c .before .before .before .before .before .before .least .ensures in
-    let there = contender-at all (c .before .before .before .before .before .before .least .result) (omega (arith, least .within)) in
+    let there = contender-at all (c .before .before .before .before .before .before .least .result)
+    (omega (arith, least .within)) in
     let number = c .before .before .before .before .number .ensures ∙ ap numberOf (sym there) in (
-      ends-won _ _ (omega arith) (λ e. omega arith) (omega arith) (start .pre .1) least (rw number at (c .before .before .put-losses .ensures)),
+      ends-won _ _ (omega arith) (λ e. omega arith) (omega arith) (start .pre .1) least
+          (rw number at (c .before .before .put-losses .ensures)),
       λ e. wins _ _ (start .pre .1) least,
     )))

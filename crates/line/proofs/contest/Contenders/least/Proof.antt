@@ -30,7 +30,9 @@ least-spec =
     (λ c. let at = c .before .before .before .before .before .before in
     let more = c .before .before .before .before .before .loop-test .taken in
     ⊎-elim
-    (λ went. rw (went .1) (least-changes (at .loop .inv) more (omega (arith, went .0 .taken, c .before .number2 .ensures, c .before .before .number .ensures))))
-    (λ went. rw (went .1) (least-stays (at .loop .inv) more (omega (arith, went .0 .left, c .before .number2 .ensures, c .before .before .number .ensures))))
+    (λ went. rw (went .1) (least-changes (at .loop .inv) more
+    (omega (arith, went .0 .taken, c .before .number2 .ensures, c .before .before .number .ensures))))
+    (λ went. rw (went .1) (least-stays (at .loop .inv) more
+    (omega (arith, went .0 .left, c .before .number2 .ensures, c .before .before .number .ensures))))
     (c .if1 .came))
     (λ c. least-of-all (c .before .loop .inv) (c .loop-test .left)))

@@ -8,10 +8,10 @@ use Rattle.line.proofs.contest.Contenders.put_losses.Statement.{stateme
 use Rattle.line.proofs.contest.Contenders.put_losses.Tie as tie
 
 abbrev Inv-loop : tie.InvT-loop
-Inv-loop winner lost₀ self count i₀ lost i = Written winner self lost₀ lost i
+Inv-loop winner lost₀ self end i₀ lost i = Written winner self lost₀ lost i
 
 abbrev μ-loop : tie.MeasureT-loop
-μ-loop winner lost₀ self count i₀ lost i = count - i
+μ-loop winner lost₀ self end i₀ lost i = end - i
 
 pub put-losses-spec : {M : Type 1} → statement M
 put-losses-spec =
@@ -28,6 +28,11 @@ put-losses-spec =
     (λ c. omega (arith, c .before .before .before .before .loop .inv .filled .long))
     (λ c. search needs)
     (λ c. search needs)
-    (λ c. written-one (c .lost-in .result) (c .before .before .before .before .loop .inv) (c .before .before .before .loop-test .taken) (omega (arith, c .before .before .before .before .loop .inv .filled .long)) (c .lost-in .ensures ∙ ap (λ (x : ℕ). differs 13 (c .before .before .before .before .before .before .args .winner) x) (c .before .number .ensures)))
+    (λ c. written-one (c .lost-in .result) (c .before .before .before .before .loop .inv)
+    (c .before .before .before .loop-test .taken) (omega
+    (arith, c .before .before .before .before .loop .inv .filled .long))
+    (c .lost-in .ensures ∙ ap (λ (x : ℕ). differs 13
+    (c .before .before .before .before .before .before .args .winner) x)
+    (c .before .number .ensures)))
     (λ c. c .before .loop .inv .filled .long)
     (λ c. written-all (c .before .loop .inv) (c .loop-test .left)))

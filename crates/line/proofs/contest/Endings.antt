@@ -8,7 +8,8 @@ use borrow.Author.Tests.{lt-ltb, le-ltb, eq-eqb, ne-eqb}
 use lib.Dec.{eqb, ltb}
 use lib.ListN.{length, drop, getD}
 use Rattle.line.specs.Choice.{pick}
-use Rattle.line.specs.Contest.{nobody, numberOf, firstOut, firstTwin, winnerOf, lossesOf, contestOf, numbersAfter, verdictOf, Contested, Wins}
+use Rattle.line.specs.Contest.{nobody, numberOf, firstOut, firstTwin, winnerOf, lossesOf, contestOf}
+use Rattle.line.specs.Contest.{numbersAfter, verdictOf, Contested, Wins}
 use Rattle.line.specs.Deciding.{Fair, Least, Losses}
 use Rattle.line.specs.declared.contest.Contender.{Contender}
 use Rattle.line.specs.declared.contest.Outcome.{Outcome}
@@ -17,7 +18,8 @@ use Rattle.line.proofs.contest.Places.{twin-found}
 use Rattle.line.proofs.contest.Winner.{losses-are, winner-is}
 
 -- a contest whose outcome is r, with the number list after it; number 15 names the first that has another alike
-concluded : {cs : List Contender} {numbers : List ℕ} (r : Outcome) (after : List ℕ) → contestOf cs numbers (firstTwin cs) ≡ r
+concluded : {cs : List Contender} {numbers : List ℕ} (r : Outcome) (after : List ℕ)
+    → contestOf cs numbers (firstTwin cs) ≡ r
     → after ≡ numbersAfter cs numbers (verdictOf r) → Contested cs numbers r after
 concluded {cs} {numbers} r after e written =
     record { twin = firstTwin cs; named = twin-found cs; verdict = ap verdictOf (sym e); written = written }
@@ -56,6 +58,13 @@ module _ (cs : List Contender) (numbers : List ℕ) where
       unfolding contestOf numbersAfter
       ends-won few fair {p} least {after} e =
           concluded (Winner p) after
-          (simp (le-ltb _ _ room, ne-eqb _ _ some, le-ltb _ _ few, le-ltb _ _ (fair .in-range), le-ltb _ _ (fair .unlike))
+          (simp (
+            le-ltb _ _ room,
+            ne-eqb _ _ some,
+            le-ltb _ _ few,
+            le-ltb _ _ (fair .in-range),
+            le-ltb _ _
+                (fair .unlike),
+          )
           (ap Winner (sym (winner-is cs p fair least))))
           (e ∙ rw (losses-are cs p fair least))
