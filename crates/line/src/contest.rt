@@ -38,7 +38,8 @@ pub enum Outcome {
     Alike(usize),
 }
 
-// What document 01 says for an outcome: the refusal's number, 0 where there is none, and the place named, 0 where none is.
+// What document 01 says for an outcome: the refusal's number, 0 where there is none, and the place named, 0 where
+// none is.
 pub struct Verdict {
     pub number: u8,
     pub place: usize,

@@ -1,0 +1,41 @@
+# Counting for the gate: `suite` runs one suite of tests and adds up what its last line says.
+passed=0
+failed=0
+
+# suite NAME COMMAND..: a suite ends with the line 'N passed, M failed'. Where it has no such line, counts nothing at all,
+# or ends with another status than 0 although it counts no failure, that is a failure itself.
+suite() {
+    suite_name=$1
+    shift
+    suite_log=$(mktemp) || exit 2
+    { "$@"; echo $? >"$suite_log.status"; } 2>&1 | tee "$suite_log"
+    suite_counts=$(tail -n 1 "$suite_log" | sed -n 's/^\([0-9][0-9]*\) passed, \([0-9][0-9]*\) failed$/\1 \2/p')
+    suite_status=$(cat "$suite_log.status" 2>/dev/null)
+    rm -f "$suite_log" "$suite_log.status"
+    suite_passed=${suite_counts% *}
+    suite_failed=${suite_counts#* }
+    if [ -z "$suite_counts" ]; then
+        echo "gate: $suite_name: its last line has no counts"
+        suite_passed=0 suite_failed=1
+    elif [ "$suite_passed" = 0 ] && [ "$suite_failed" = 0 ]; then
+        echo "gate: $suite_name: it counted nothing"
+        suite_failed=1
+    elif [ "$suite_status" != 0 ] && [ "$suite_failed" = 0 ]; then
+        echo "gate: $suite_name: status $suite_status, and no failure counted"
+        suite_failed=1
+    fi
+    passed=$((passed + suite_passed))
+    failed=$((failed + suite_failed))
+}
+
+# one NAME COMMAND..: a single test, which passes where the command's status is 0
+one() {
+    one_name=$1
+    shift
+    if "$@"; then
+        passed=$((passed + 1))
+    else
+        echo "gate: $one_name failed"
+        failed=$((failed + 1))
+    fi
+}
