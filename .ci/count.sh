@@ -2,8 +2,8 @@
 passed=0
 failed=0
 
-# suite NAME COMMAND..: a suite ends with the line 'N passed, M failed'. Where it has no such line, counts nothing at all,
-# or ends with another status than 0 although it counts no failure, that is a failure itself.
+# suite NAME COMMAND..: a suite ends with the line 'N passed, M failed'. Where it has no such line, counts nothing at
+# all, or ends with another status than 0 although it counts no failure, that is a failure itself.
 suite() {
     suite_name=$1
     shift

@@ -12,3 +12,8 @@ pick false a b = b
 abbrev pub bitOf : Bool → ℕ
 bitOf true = 1
 bitOf false = 0
+
+-- a value, then what is made of it
+infixl 20 _▹_
+abbrev pub _▹_ : {A B : Type 0} → A → (A → B) → B
+_▹_ x f = f x

@@ -1,5 +1,7 @@
+use native.Mathlib.Omega.{arith}
 use borrow.Author.Tests.{lt-ltb, le-ltb}
 use borrow.Author.Needs.{needs}
+use Rattle.line.specs.Numbers.{mostContenders}
 use Rattle.line.proofs.contest.Contenders.with.Statement.{statement}
 use Rattle.line.proofs.contest.Contenders.with.Tie as tie
 
@@ -9,5 +11,5 @@ with-spec =
     (tie.spec
     (λ c. search needs)
     (λ c. search needs)
-    (λ c. simp (lt-ltb _ _ (c .if1 .taken)))
-    (λ c. simp (le-ltb _ _ (c .if1 .left))))
+    (λ c. simp (lt-ltb (c .before .args .place) mostContenders (omega (arith, c .if1 .taken))))
+    (λ c. simp (le-ltb (c .before .args .place) mostContenders (omega (arith, c .if1 .left)))))

@@ -1,0 +1,2 @@
+-- The laws that the proofs of this library and of those above it share.
+pub mod Values

@@ -1,0 +1,11 @@
+use Rattle.frame.specs.Drive.{answerOf}
+use borrow.Author.Needs.{needs}
+use Rattle.frame.proofs.driving.answer.Statement.{statement}
+use Rattle.frame.proofs.driving.answer.Tie as tie
+
+pub answer-spec : {M : Type 1} → statement M
+unfolding answerOf
+answer-spec =
+    tie.close
+    (tie.spec
+    (λ c. search needs))

@@ -1,0 +1,13 @@
+use Rattle.frame.specs.Frame.{shiftedOf}
+use borrow.Author.Needs.{needs}
+use Rattle.frame.proofs.place.Frame.shifted.Statement.{statement}
+use Rattle.frame.proofs.place.Frame.shifted.Tie as tie
+
+pub shifted-spec : {M : Type 1} → statement M
+unfolding shiftedOf
+shifted-spec =
+    tie.close
+    (tie.spec
+    (λ c κs. search needs)
+    (λ c κs. search needs)
+    (λ c. simp (c .next .ensures, c .before .shift-in .ensures)))
