@@ -1,0 +1,151 @@
+/* The host's words: single ones at any place, and what a host does between frames. */
+#include "traffic.h"
+
+void host_look(struct traffic *t)
+{
+    static const unsigned registers[] = {
+        READ_STR, READ_FLG, READ_RDR1, READ_RDR2, READ_RCR, READ_LOR1, READ_LOR2
+    };
+    emit_write(t, WRITE_CMR, CMR_COPY_LOCK);
+    for (size_t i = 0; i < sizeof registers / sizeof *registers; i++)
+        emit_read(t, registers[i]);
+}
+
+/* A word that some rule refuses whatever the state, or that looks like one. */
+static void malformed_word(struct traffic *t)
+{
+    struct random *r = &t->random;
+    switch (random_below(r, 5)) {
+    case 0: emit(t, random_word(r)); break;
+    case 1: emit(t, random_below(r, 3) << KIND_SHIFT | random_below(r, 1u << KIND_SHIFT)); break;
+    case 2: emit_write(t, random_below(r, 16), random_below(r, 256)); break;
+    case 3: emit_read(t, random_below(r, 16)); break;
+    default: emit(t, random_below(r, 4) | 4u << random_below(r, 26)); break;
+    }
+}
+
+static void write_address(struct traffic *t, unsigned low_register, unsigned high_register, unsigned address,
+                          unsigned low_bits)
+{
+    emit_write(t, low_register, (address & 0xF) << 4 | low_bits);
+    emit_write(t, high_register, address >> 4);
+}
+
+static void own_address_words(struct traffic *t)
+{
+    static const uint32_t choices[] = {0x525, 0xFFF, 0x000, 0x0FF, 0x100, 0x5A5, 0xABC, 0xFFE, 0x7FF};
+    struct random *r = &t->random;
+    unsigned address = random_chance(r, 300) ? random_below(r, MAX_ADDRESS + 1) : random_of(r, choices, 9);
+    unsigned enabled = random_chance(r, 850) ? UAR1_SENDING_ENABLED : 0;
+    write_address(t, WRITE_UAR1, WRITE_UAR2, address, enabled | random_below(r, 2));
+}
+
+static void mcr_word(struct traffic *t)
+{
+    static const uint32_t writes[] = {CONTROL_COMMAND_LOCK, CONTROL_DATA_LOCK, CONTROL_COMMAND, CONTROL_DATA};
+    static const uint32_t reads[] = {0x0, 0x3, 0x4, 0x5, 0x6, 0x7};
+    struct random *r = &t->random;
+    unsigned retries = random_chance(r, 700) ? random_below(r, 3) : random_below(r, 8);
+    bool read = random_chance(r, 400);
+    unsigned control = read ? random_of(r, reads, 6) : random_of(r, writes, 4);
+    unsigned individual = read || random_chance(r, 700) ? MCR_INDIVIDUAL : 0;
+    emit_write(t, WRITE_MCR, individual | retries << MCR_RETRIES_SHIFT | control);
+}
+
+static void reset_or_nothing(struct traffic *t)
+{
+    emit_write(t, WRITE_CTR, random_chance(&t->random, t->habits.reset) ? CTR_RESET : CTR_NOTHING);
+}
+
+void host_word(struct traffic *t)
+{
+    static const uint32_t reads[] = {
+        READ_STR, READ_FLG, READ_RDR1, READ_RDR2, READ_LOR1, READ_LOR2, READ_RCR, READ_RCR, READ_RBF, READ_FLG
+    };
+    struct random *r = &t->random;
+    switch (random_below(r, 24)) {
+    case 0: case 1: case 2: case 3: case 4: case 5: emit_read(t, random_of(r, reads, 10)); break;
+    case 6: emit_read(t, READ_RCR); break;
+    case 7: case 8: emit_write(t, WRITE_TBF, random_chance(r, 500) ? random_below(r, 6) : random_below(r, 256)); break;
+    case 9: case 10: emit_write(t, WRITE_CTR, CTR_SET_SLRE); break;
+    case 11: emit_write(t, WRITE_CMR, CMR_CLEAR_SLRE); break;
+    case 12: emit_write(t, WRITE_CMR, CMR_COPY_LOCK); break;
+    case 13: emit_write(t, WRITE_CMR, CMR_MASTER_REQUEST); break;
+    case 14: emit_write(t, WRITE_CMR, CMR_OFFER_SLAVE_DATA); break;
+    case 15: own_address_words(t); break;
+    case 16: write_address(t, WRITE_SAR1, WRITE_SAR2, pool_address(t), 0); break;
+    case 17: mcr_word(t); break;
+    case 18: malformed_word(t); break;
+    case 19: reset_or_nothing(t); break;
+    case 20: emit_write(t, WRITE_UAR1, (t->unit.uar1 & 0xF0) | random_below(r, 4)); break;
+    default: emit_read(t, READ_RBF); break;
+    }
+}
+
+void host_refill(struct traffic *t)
+{
+    for (uint32_t n = 1 + random_below(&t->random, 3); n > 0; n--)
+        emit_write(t, WRITE_TBF, random_below(&t->random, 256));
+}
+
+/* A length, then all of its bytes or fewer, so that some senders run empty. */
+static void fill_tbf(struct traffic *t)
+{
+    static const uint32_t lengths[] = {0, 1, 1, 2, 2, 3, 4, 5, 15, 16, 17, 31, 32, 33, 255};
+    struct random *r = &t->random;
+    unsigned length = random_chance(r, 900) ? random_of(r, lengths, 15) : random_below(r, 256);
+    unsigned bytes = length_in_bytes((uint8_t)length);
+    if (random_chance(r, 350))
+        bytes = 1 + random_below(r, bytes);
+    if (bytes > TBF_CAPACITY - 1)
+        bytes = TBF_CAPACITY - 1 + random_below(r, 3);
+    emit_write(t, WRITE_TBF, length);
+    for (; bytes > 0; bytes--)
+        emit_write(t, WRITE_TBF, random_below(r, 256));
+}
+
+static void ask_to_send(struct traffic *t, bool offer)
+{
+    if (t->unit.tbf.count == 0 || random_chance(&t->random, 100))
+        fill_tbf(t);
+    emit_write(t, WRITE_CMR, offer ? CMR_OFFER_SLAVE_DATA : CMR_MASTER_REQUEST);
+}
+
+static void requests(struct traffic *t)
+{
+    struct random *r = &t->random;
+    if (random_chance(r, t->habits.request)) {
+        write_address(t, WRITE_SAR1, WRITE_SAR2, pool_address(t), 0);
+        mcr_word(t);
+        if (request_writes(&t->unit))
+            ask_to_send(t, false);
+        else
+            emit_write(t, WRITE_CMR, CMR_MASTER_REQUEST);
+    } else if (random_chance(r, t->habits.offer)) {
+        ask_to_send(t, true);
+    }
+}
+
+void host_between_frames(struct traffic *t)
+{
+    struct random *r = &t->random;
+    if (random_chance(r, t->habits.look))
+        host_look(t);
+    if (random_chance(r, t->habits.empty_rbf)) {
+        while (t->unit.rbf.count > 0 && !traffic_full(t))
+            emit_read(t, READ_RBF);
+    } else if (random_chance(r, 200)) {
+        emit_read(t, READ_RBF);
+    }
+    if (random_chance(r, 30) || (t->unit.uar2 == 0 && random_chance(r, 300)))
+        own_address_words(t);
+    if (!t->unit.marq && !t->unit.strq)
+        requests(t);
+    if (!t->unit.slre && random_chance(r, 700))
+        emit_write(t, WRITE_CTR, CTR_SET_SLRE);
+    while (random_chance(r, 150))
+        host_word(t);
+    if (random_chance(r, t->habits.garble))
+        for (uint32_t n = random_below(r, 12); n > 0; n--)
+            malformed_word(t);
+}

@@ -1,0 +1,275 @@
+/* One frame on the line: simulated masters that contend from one start slot, a simulated slave, noise and cuts. The
+   settled level of each slot is the wired AND of all of them and of the unit; "level 0 wins". */
+#include <string.h>
+
+#include "traffic.h"
+
+#define MAX_MASTERS 3
+#define NEVER 100000u
+
+struct master {
+    bool in;                 /* has not lost and not aborted */
+    bool broadcast;
+    unsigned address, slave, control, length;
+    unsigned bad_fields;     /* bit n: field n goes out with the wrong P */
+};
+
+struct line {
+    struct master masters[MAX_MASTERS];
+    uint32_t masters_len;
+    bool slave_answers;      /* a simulated slave takes part */
+    unsigned slave_length;
+    uint32_t nak, bad_data, host, refill, leave;   /* chances in thousandths */
+    uint32_t cut_at, noise_at, slots;
+    bool cut_by_start;
+    uint32_t overrun;        /* fields that follow where the rules would have ended the frame */
+
+    enum field field;
+    unsigned count, bits, attempts, acked, length, control;
+    bool broadcast;
+    bool ack, bad;           /* drawn for the field */
+    uint8_t byte;
+};
+
+static const uint8_t field_bits[] = {
+    [FIELD_BROADCAST] = 0, [FIELD_MASTER] = ADDRESS_BITS, [FIELD_SLAVE] = ADDRESS_BITS,
+    [FIELD_CONTROL] = CONTROL_BITS, [FIELD_LENGTH] = BYTE_BITS, [FIELD_DATA] = BYTE_BITS
+};
+
+static unsigned draw_length(struct random *r)
+{
+    static const uint32_t edges[] = {0, 15, 16, 17, 31, 32, 33, 34, 40, 255};
+    if (random_chance(r, 650))
+        return 1 + random_below(r, 4);
+    return random_chance(r, 700) ? random_of(r, edges, 10) : random_below(r, 256);
+}
+
+static unsigned draw_control(struct random *r)
+{
+    static const uint32_t locking[] = {0x3, 0x6, 0x7, 0xA, 0xB, 0xF, 0xE};
+    return random_chance(r, 600) ? random_of(r, locking, 7) : random_below(r, 16);
+}
+
+static void draw_master(struct traffic *t, struct master *m)
+{
+    struct random *r = &t->random;
+    m->in = true;
+    m->broadcast = random_chance(r, 250);
+    m->address = t->unit.locked && random_chance(r, 400) ? t->unit.holder : pool_address(t);
+    m->slave = random_chance(r, t->habits.own_slave) ? own_address(&t->unit) : pool_address(t);
+    if (m->broadcast && random_chance(r, 400))
+        m->slave = GENERAL_BROADCAST;
+    m->control = draw_control(r);
+    m->length = draw_length(r);
+    m->bad_fields = random_chance(r, 120) ? 1u << (FIELD_MASTER + random_below(r, 4)) : 0;
+}
+
+static void draw_line(struct traffic *t, struct line *l)
+{
+    static const uint32_t naks[] = {0, 0, 0, 100, 400, 1000};
+    static const uint32_t hosts[] = {0, 0, 0, 20, 50, 200, 600};
+    static const uint32_t refills[] = {0, 50, 200};
+    static const uint32_t leaves[] = {0, 100, 300};
+    struct random *r = &t->random;
+    memset(l, 0, sizeof *l);
+    bool unit_starts = t->unit.marq && !request_holds_back(&t->unit);
+    l->masters_len = unit_starts && random_chance(r, 500) ? 0 : 1 + random_below(r, MAX_MASTERS);
+    if (!unit_starts && random_chance(r, 600))
+        l->masters_len = 1;
+    for (uint32_t i = 0; i < l->masters_len; i++)
+        draw_master(t, &l->masters[i]);
+    l->slave_answers = random_chance(r, l->masters_len == 0 ? 850 : 250);
+    l->slave_length = draw_length(r);
+    l->nak = random_of(r, naks, 6);
+    l->bad_data = random_of(r, naks, 6);
+    l->host = random_of(r, hosts, 7);
+    l->refill = random_of(r, refills, 3);
+    l->leave = random_of(r, leaves, 3);
+    l->cut_at = NEVER;
+    if (random_chance(r, t->habits.cut))
+        l->cut_at = random_below(r, random_chance(r, 800) ? 90 : 400);
+    l->cut_by_start = random_chance(r, 400);
+    l->noise_at = random_chance(r, 60) ? random_below(r, 90) : NEVER;
+    l->overrun = random_chance(r, 120) ? 1 + random_below(r, 3) : 0;
+}
+
+static void enter_field(struct traffic *t, struct line *l, enum field field)
+{
+    struct random *r = &t->random;
+    l->field = field;
+    l->count = 0;
+    l->bits = 0;
+    bool early = field < FIELD_LENGTH;
+    l->ack = !random_chance(r, early ? l->nak / 8 : l->nak);
+    l->bad = field == FIELD_DATA && random_chance(r, l->bad_data);
+}
+
+/* The level of a slot among a field's bits and P, highest bit first. */
+static unsigned sent(const struct line *l, unsigned value, bool bad)
+{
+    unsigned out = (value << 1 | parity(value)) ^ (bad ? 1 : 0);
+    return out >> (field_bits[l->field] - l->count) & 1;
+}
+
+static bool in_acknowledge(const struct line *l)
+{
+    return l->count == field_bits[l->field] + 1u;
+}
+
+/* "Set in every control that writes": then length and data are the master's, and their A the slave's. */
+static bool slave_sends(const struct line *l)
+{
+    return l->field >= FIELD_LENGTH && !(l->control & CONTROL_WRITES);
+}
+
+static unsigned master_level(const struct line *l, const struct master *m)
+{
+    if (in_acknowledge(l))
+        return !(slave_sends(l) && l->ack);
+    if (slave_sends(l))
+        return 1;
+    bool bad = m->bad_fields >> l->field & 1;
+    switch (l->field) {
+    case FIELD_BROADCAST: return !m->broadcast;
+    case FIELD_MASTER: return sent(l, m->address, bad);
+    case FIELD_SLAVE: return sent(l, m->slave, bad);
+    case FIELD_CONTROL: return sent(l, m->control, bad);
+    case FIELD_LENGTH: return sent(l, m->length, bad);
+    default: return sent(l, l->byte, l->bad);
+    }
+}
+
+static unsigned slave_level(const struct line *l)
+{
+    if (in_acknowledge(l))
+        return l->field == FIELD_MASTER || slave_sends(l) || !l->ack;
+    if (!slave_sends(l))
+        return 1;
+    return l->field == FIELD_LENGTH ? sent(l, l->slave_length, l->bad) : sent(l, l->byte, l->bad);
+}
+
+/* What all parties but the unit make of the slot. */
+static unsigned others_level(const struct line *l)
+{
+    unsigned level = l->slots != l->noise_at;
+    for (uint32_t i = 0; i < l->masters_len; i++)
+        if (l->masters[i].in)
+            level &= master_level(l, &l->masters[i]);
+    if (l->slave_answers)
+        level &= slave_level(l);
+    return level;
+}
+
+static void drop_losers(struct line *l, unsigned settled)
+{
+    for (uint32_t i = 0; i < l->masters_len; i++)
+        if (!settled && !in_acknowledge(l) && !slave_sends(l) && master_level(l, &l->masters[i]))
+            l->masters[i].in = false;
+}
+
+/* Whether the frame goes on although a NAK, the last byte or the last attempt would end it. */
+static bool goes_on(struct line *l)
+{
+    if (l->overrun == 0)
+        return false;
+    l->overrun--;
+    return true;
+}
+
+static bool after_data(struct traffic *t, struct line *l, bool ack)
+{
+    l->attempts++;
+    if (ack) {
+        l->acked++;
+        l->byte = (uint8_t)random_word(&t->random);
+    }
+    enter_field(t, l, FIELD_DATA);
+    bool ended = l->acked >= l->length || l->attempts >= attempt_limit(t->unit.uar1 & UAR1_MODE);
+    return !ended || goes_on(l);
+}
+
+static bool after_acknowledge(struct traffic *t, struct line *l, bool ack)
+{
+    if (l->field == FIELD_DATA)
+        return after_data(t, l, ack);
+    if (!ack && !goes_on(l))
+        return false;
+    if (l->field == FIELD_LENGTH)
+        l->byte = (uint8_t)random_word(&t->random);
+    enter_field(t, l, l->field + 1);
+    return true;
+}
+
+/* Follows the settled level; false where the frame ends. */
+static bool advance(struct traffic *t, struct line *l, unsigned level)
+{
+    drop_losers(l, level);
+    l->slots++;
+    if (in_acknowledge(l))
+        return after_acknowledge(t, l, !level || l->broadcast);
+    l->bits = l->bits << 1 | level;
+    l->count++;
+    if (l->field == FIELD_BROADCAST) {
+        l->broadcast = !level;
+        enter_field(t, l, FIELD_MASTER);
+    } else if (in_acknowledge(l)) {
+        if (l->field == FIELD_MASTER)
+            enter_field(t, l, FIELD_SLAVE);
+        else if (l->field == FIELD_CONTROL)
+            l->control = l->bits >> 1;
+        else if (l->field == FIELD_LENGTH)
+            l->length = length_in_bytes((uint8_t)(l->bits >> 1));
+    }
+    return true;
+}
+
+static bool nobody_masters(const struct traffic *t, const struct line *l)
+{
+    for (uint32_t i = 0; i < l->masters_len; i++)
+        if (l->masters[i].in)
+            return false;
+    return t->unit.frame.field == WAITING;
+}
+
+static bool unit_wants_data(const struct traffic *t)
+{
+    const struct frame *f = &t->unit.frame;
+    return f->field >= FIELD_LENGTH && f->sending && t->unit.tbf.count == 0;
+}
+
+static void words_between_slots(struct traffic *t, struct line *l)
+{
+    struct random *r = &t->random;
+    if (random_chance(r, l->host))
+        host_word(t);
+    if (unit_wants_data(t) && random_chance(r, l->refill))
+        host_refill(t);
+    if (random_chance(r, 3))
+        emit(t, random_below(r, 4) | 4u << random_below(r, 26));
+    /* "a level the line cannot have" */
+    if (t->drive == DRIVE_0 && random_chance(r, 10))
+        emit_slot(t, SLOT_LEVEL_1);
+}
+
+void line_frame(struct traffic *t)
+{
+    struct random *r = &t->random;
+    struct line l;
+    bool start_again = true;
+    while (start_again && !traffic_full(t)) {
+        draw_line(t, &l);
+        emit_slot(t, SLOT_START);
+        enter_field(t, &l, FIELD_BROADCAST);
+        bool going = true;
+        while (going && l.slots != l.cut_at && !traffic_full(t)) {
+            words_between_slots(t, &l);
+            unsigned level = others_level(&l) & (t->drive != DRIVE_0);
+            emit_slot(t, level);
+            going = advance(t, &l, level);
+            if (nobody_masters(t, &l) ? random_chance(r, 600)
+                                      : t->unit.frame.field == WAITING && random_chance(r, l.leave))
+                going = false;
+        }
+        start_again = going && l.cut_by_start;
+    }
+}

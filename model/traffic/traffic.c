@@ -1,0 +1,122 @@
+/* Whole lists: habits drawn from the seed, then frames, idle slots, stray levels and host words until the list is
+   full. */
+#include "traffic.h"
+
+void emit(struct traffic *t, uint32_t word)
+{
+    if (traffic_full(t))
+        return;
+    uint32_t answer = model_step(&t->unit, word);
+    t->words[t->len] = word;
+    t->answers[t->len] = answer;
+    t->len++;
+    if (answer >> KIND_SHIFT != KIND_REFUSED)
+        t->drive = answer >> DRIVE_SHIFT & DRIVE_MASK;
+}
+
+void emit_slot(struct traffic *t, unsigned slot)
+{
+    emit(t, (uint32_t)KIND_SLOT << KIND_SHIFT | slot);
+}
+
+void emit_write(struct traffic *t, unsigned reg, unsigned value)
+{
+    emit(t, (uint32_t)KIND_WRITE << KIND_SHIFT | reg << REGISTER_SHIFT | value);
+}
+
+void emit_read(struct traffic *t, unsigned reg)
+{
+    emit(t, (uint32_t)KIND_READ << KIND_SHIFT | reg << REGISTER_SHIFT);
+}
+
+unsigned pool_address(struct traffic *t)
+{
+    struct random *r = &t->random;
+    unsigned own = own_address(&t->unit);
+    unsigned bit = 1u << random_below(r, ADDRESS_BITS);
+    switch (random_below(r, 12)) {
+    case 0: return own;
+    case 1: case 2: return t->unit.holder;
+    case 3: return t->unit.holder ^ bit;
+    /* Differs from the own address first in the chosen bit, so that a contest is settled there. */
+    case 4: case 5: return (own ^ bit) ^ (random_word(r) & (bit - 1));
+    case 6: return own ^ bit;
+    case 7: return (own & 0xF00) | random_below(r, 256);
+    case 8: return MAX_ADDRESS;
+    case 9: return 0x100 + random_below(r, 4);
+    case 10: return random_below(r, 3);
+    default: return random_below(r, MAX_ADDRESS + 1);
+    }
+}
+
+static void draw_habits(struct traffic *t)
+{
+    static const uint32_t resets[] = {0, 0, 30, 100, 300};
+    static const uint32_t rare[] = {0, 10, 50, 200};
+    static const uint32_t often[] = {100, 400, 700, 950};
+    struct random *r = &t->random;
+    t->habits.reset = random_of(r, resets, 5);
+    t->habits.garble = random_of(r, rare, 4);
+    t->habits.no_idle = random_of(r, rare, 4);
+    t->habits.look = random_of(r, often, 4);
+    t->habits.request = random_of(r, often, 3);
+    t->habits.offer = random_of(r, often, 4);
+    t->habits.empty_rbf = random_of(r, often, 4);
+    t->habits.own_slave = random_of(r, often, 4);
+    t->habits.cut = random_of(r, often, 3);
+}
+
+void traffic_begin(struct traffic *t, uint64_t seed, uint32_t *words, uint32_t *answers, size_t capacity)
+{
+    t->random = random_seeded(seed);
+    draw_habits(t);
+    model_reset(&t->unit);
+    t->drive = DRIVE_RELEASED;
+    t->words = words;
+    t->answers = answers;
+    t->len = 0;
+    t->capacity = capacity;
+}
+
+/* "levels and idle slots outside all frames", where a level may also meet a unit that drives start. */
+static void outside_frames(struct traffic *t)
+{
+    struct random *r = &t->random;
+    for (uint32_t n = random_below(r, 4); n > 0; n--)
+        emit_slot(t, random_chance(r, 700) ? SLOT_IDLE : random_below(r, 2));
+}
+
+/* Words that are all well formed, with no bus in mind: starts, idles and levels as they fall. */
+static void formless_words(struct traffic *t)
+{
+    struct random *r = &t->random;
+    for (uint32_t n = random_below(r, 400); n > 0; n--) {
+        if (random_chance(r, 150))
+            host_word(t);
+        else if (random_chance(r, 30))
+            emit_slot(t, SLOT_START + random_below(r, 2));
+        else
+            emit_slot(t, random_below(r, 2) & (t->drive != DRIVE_0 || random_chance(r, 50)));
+    }
+}
+
+void traffic_make(struct traffic *t, uint64_t seed, uint32_t *words, uint32_t *answers, size_t capacity)
+{
+    traffic_begin(t, seed, words, answers, capacity);
+    struct random *r = &t->random;
+    bool formless = random_chance(r, 30);
+    while (!traffic_full(t)) {
+        host_between_frames(t);
+        if (formless || random_chance(r, 5)) {
+            formless_words(t);
+            continue;
+        }
+        if (!random_chance(r, t->habits.no_idle))
+            emit_slot(t, SLOT_IDLE);
+        if (random_chance(r, 100))
+            outside_frames(t);
+        if (random_chance(r, 5))
+            draw_habits(t);
+        line_frame(t);
+    }
+}
