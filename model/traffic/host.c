@@ -82,12 +82,6 @@ void host_word(struct traffic *t)
     }
 }
 
-void host_refill(struct traffic *t)
-{
-    for (uint32_t n = 1 + random_below(&t->random, 3); n > 0; n--)
-        emit_write(t, WRITE_TBF, random_below(&t->random, 256));
-}
-
 /* A length, then all of its bytes or fewer, so that some senders run empty. */
 static void fill_tbf(struct traffic *t)
 {
@@ -111,6 +105,44 @@ static void ask_to_send(struct traffic *t, bool offer)
     emit_write(t, WRITE_CMR, offer ? CMR_OFFER_SLAVE_DATA : CMR_MASTER_REQUEST);
 }
 
+static void empty_rbf(struct traffic *t)
+{
+    while (t->unit.rbf.count > 0 && !traffic_full(t))
+        emit_read(t, READ_RBF);
+}
+
+/* What the status byte, the mode and a control's judgement rest on. */
+static void turn_state(struct traffic *t)
+{
+    struct random *r = &t->random;
+    switch (random_below(r, 5)) {
+    case 0: emit_write(t, WRITE_CTR, CTR_SET_SLRE); break;
+    case 1: emit_write(t, WRITE_CMR, CMR_CLEAR_SLRE); break;
+    case 2: ask_to_send(t, true); break;
+    case 3: emit_write(t, WRITE_UAR1, t->unit.uar1 ^ (1 + random_below(r, 3))); break;
+    default: empty_rbf(t);
+    }
+}
+
+/* "A judgement is made with the P slot's word, from the state then, and later host words do not change it." */
+void host_after_judgement(struct traffic *t)
+{
+    struct random *r = &t->random;
+    if (t->unit.frame.field != FIELD_SLAVE)
+        turn_state(t);
+    else
+        write_address(t, WRITE_UAR1, WRITE_UAR2, random_chance(r, 500) ? t->unit.frame.slave_address : pool_address(t),
+                      UAR1_SENDING_ENABLED | random_below(r, 2));
+}
+
+void host_refill(struct traffic *t)
+{
+    for (uint32_t n = 1 + random_below(&t->random, 3); n > 0; n--)
+        emit_write(t, WRITE_TBF, random_below(&t->random, 256));
+    if (random_chance(&t->random, 300))
+        emit_read(t, READ_RCR);
+}
+
 static void requests(struct traffic *t)
 {
     struct random *r = &t->random;
@@ -131,17 +163,15 @@ void host_between_frames(struct traffic *t)
     struct random *r = &t->random;
     if (random_chance(r, t->habits.look))
         host_look(t);
-    if (random_chance(r, t->habits.empty_rbf)) {
-        while (t->unit.rbf.count > 0 && !traffic_full(t))
-            emit_read(t, READ_RBF);
-    } else if (random_chance(r, 200)) {
+    if (random_chance(r, t->habits.empty_rbf))
+        empty_rbf(t);
+    else if (random_chance(r, 200))
         emit_read(t, READ_RBF);
-    }
     if (random_chance(r, 30) || (t->unit.uar2 == 0 && random_chance(r, 300)))
         own_address_words(t);
     if (!t->unit.marq && !t->unit.strq)
         requests(t);
-    if (!t->unit.slre && random_chance(r, 700))
+    if (!t->unit.slre && random_chance(r, t->habits.enable))
         emit_write(t, WRITE_CTR, CTR_SET_SLRE);
     while (random_chance(r, 150))
         host_word(t);

@@ -19,7 +19,7 @@ struct line {
     uint32_t masters_len;
     bool slave_answers;      /* a simulated slave takes part */
     unsigned slave_length;
-    uint32_t nak, bad_data, host, refill, leave;   /* chances in thousandths */
+    uint32_t nak, bad_data, host, refill, timely, leave;   /* chances in thousandths */
     uint32_t cut_at, noise_at, slots;
     bool cut_by_start;
     uint32_t overrun;        /* fields that follow where the rules would have ended the frame */
@@ -46,8 +46,8 @@ static unsigned draw_length(struct random *r)
 
 static unsigned draw_control(struct random *r)
 {
-    static const uint32_t locking[] = {0x3, 0x6, 0x7, 0xA, 0xB, 0xF, 0xE};
-    return random_chance(r, 600) ? random_of(r, locking, 7) : random_below(r, 16);
+    static const uint32_t accepted[] = {0x0, 0x0, 0x3, 0x6, 0x7, 0xA, 0xB, 0xF, 0xE};
+    return random_chance(r, 600) ? random_of(r, accepted, 9) : random_below(r, 16);
 }
 
 static void draw_master(struct traffic *t, struct master *m)
@@ -64,11 +64,27 @@ static void draw_master(struct traffic *t, struct master *m)
     m->bad_fields = random_chance(r, 120) ? 1u << (FIELD_MASTER + random_below(r, 4)) : 0;
 }
 
+/* Where the frame is disturbed: at any of its first slots, or at a P or an A, which rules name apart. */
+static void draw_disturbances(struct traffic *t, struct line *l)
+{
+    static const uint32_t edges[] = {13, 13, 26, 27, 32, 33, 42, 43, 52, 53};
+    struct random *r = &t->random;
+    l->cut_at = NEVER;
+    if (random_chance(r, t->habits.cut))
+        l->cut_at = random_below(r, random_chance(r, 800) ? 90 : 400);
+    l->cut_by_start = random_chance(r, 400);
+    l->noise_at = NEVER;
+    if (random_chance(r, 150))
+        l->noise_at = random_chance(r, 600) ? random_of(r, edges, 10) : random_below(r, 90);
+    l->overrun = random_chance(r, 120) ? 1 + random_below(r, 3) : 0;
+}
+
 static void draw_line(struct traffic *t, struct line *l)
 {
     static const uint32_t naks[] = {0, 0, 0, 100, 400, 1000};
     static const uint32_t hosts[] = {0, 0, 0, 20, 50, 200, 600};
     static const uint32_t refills[] = {0, 50, 200};
+    static const uint32_t timely[] = {0, 200, 600};
     static const uint32_t leaves[] = {0, 100, 300};
     struct random *r = &t->random;
     memset(l, 0, sizeof *l);
@@ -85,12 +101,8 @@ static void draw_line(struct traffic *t, struct line *l)
     l->host = random_of(r, hosts, 7);
     l->refill = random_of(r, refills, 3);
     l->leave = random_of(r, leaves, 3);
-    l->cut_at = NEVER;
-    if (random_chance(r, t->habits.cut))
-        l->cut_at = random_below(r, random_chance(r, 800) ? 90 : 400);
-    l->cut_by_start = random_chance(r, 400);
-    l->noise_at = random_chance(r, 60) ? random_below(r, 90) : NEVER;
-    l->overrun = random_chance(r, 120) ? 1 + random_below(r, 3) : 0;
+    l->timely = random_of(r, timely, 3);
+    draw_disturbances(t, l);
 }
 
 static void enter_field(struct traffic *t, struct line *l, enum field field)
@@ -99,8 +111,8 @@ static void enter_field(struct traffic *t, struct line *l, enum field field)
     l->field = field;
     l->count = 0;
     l->bits = 0;
-    bool early = field < FIELD_LENGTH;
-    l->ack = !random_chance(r, early ? l->nak / 8 : l->nak);
+    /* A NAK before the data stops the frame, so it comes less often than one that repeats a byte. */
+    l->ack = !random_chance(r, field == FIELD_DATA ? l->nak : l->nak / 8);
     l->bad = field == FIELD_DATA && random_chance(r, l->bad_data);
 }
 
@@ -244,6 +256,8 @@ static void words_between_slots(struct traffic *t, struct line *l)
         host_word(t);
     if (unit_wants_data(t) && random_chance(r, l->refill))
         host_refill(t);
+    if (in_acknowledge(l) && random_chance(r, l->timely))
+        host_after_judgement(t);
     if (random_chance(r, 3))
         emit(t, random_below(r, 4) | 4u << random_below(r, 26));
     /* "a level the line cannot have" */

@@ -51,16 +51,16 @@ unsigned pool_address(struct traffic *t)
 
 static void draw_habits(struct traffic *t)
 {
-    static const uint32_t resets[] = {0, 0, 30, 100, 300};
     static const uint32_t rare[] = {0, 10, 50, 200};
     static const uint32_t often[] = {100, 400, 700, 950};
+    static const uint32_t any[] = {0, 100, 400, 800};
     struct random *r = &t->random;
-    t->habits.reset = random_of(r, resets, 5);
     t->habits.garble = random_of(r, rare, 4);
     t->habits.no_idle = random_of(r, rare, 4);
     t->habits.look = random_of(r, often, 4);
-    t->habits.request = random_of(r, often, 3);
-    t->habits.offer = random_of(r, often, 4);
+    t->habits.request = random_of(r, any, 4);
+    t->habits.offer = random_of(r, any, 4);
+    t->habits.enable = random_of(r, any, 4);
     t->habits.empty_rbf = random_of(r, often, 4);
     t->habits.own_slave = random_of(r, often, 4);
     t->habits.cut = random_of(r, often, 3);
@@ -68,7 +68,10 @@ static void draw_habits(struct traffic *t)
 
 void traffic_begin(struct traffic *t, uint64_t seed, uint32_t *words, uint32_t *answers, size_t capacity)
 {
+    /* Drawn once: a list that resets at all has no unit with a long life. */
+    static const uint32_t resets[] = {0, 0, 30, 100, 300};
     t->random = random_seeded(seed);
+    t->habits.reset = random_of(&t->random, resets, 5);
     draw_habits(t);
     model_reset(&t->unit);
     t->drive = DRIVE_RELEASED;

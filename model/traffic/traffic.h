@@ -13,6 +13,7 @@ struct habits {
     uint32_t look;           /* the host reads all registers after a frame */
     uint32_t request;        /* the host prepares a master request */
     uint32_t offer;          /* the host offers slave data */
+    uint32_t enable;         /* the host sets SLRE */
     uint32_t empty_rbf;      /* the host reads RBF until it is empty */
     uint32_t own_slave;      /* a simulated master calls the unit */
     uint32_t cut;            /* a frame is cut */
@@ -50,8 +51,10 @@ void emit_read(struct traffic *t, unsigned reg);
 /* An address from a small pool: the unit's own, the holder, near misses, the same group, FFFH, others. */
 unsigned pool_address(struct traffic *t);
 
-/* The host: one word at any place, TBF bytes for a sender that wants data, and its work between frames. */
+/* The host: one word at any place, one that would turn a judgement just made, TBF bytes for a sender that wants data,
+   all registers read, and its work between frames. */
 void host_word(struct traffic *t);
+void host_after_judgement(struct traffic *t);
 void host_refill(struct traffic *t);
 void host_look(struct traffic *t);
 void host_between_frames(struct traffic *t);
