@@ -1,109 +1,11 @@
 /* One frame on the line: simulated masters that contend from one start slot, a simulated slave, noise and cuts. The
    settled level of each slot is the wired AND of all of them and of the unit; "level 0 wins". */
-#include <string.h>
-
-#include "traffic.h"
-
-#define MAX_MASTERS 3
-#define NEVER 100000u
-
-struct master {
-    bool in;                 /* has not lost and not aborted */
-    bool broadcast;
-    unsigned address, slave, control, length;
-    unsigned bad_fields;     /* bit n: field n goes out with the wrong P */
-};
-
-struct line {
-    struct master masters[MAX_MASTERS];
-    uint32_t masters_len;
-    bool slave_answers;      /* a simulated slave takes part */
-    unsigned slave_length;
-    uint32_t nak, bad_data, host, refill, timely, leave;   /* chances in thousandths */
-    uint32_t cut_at, noise_at, slots;
-    bool cut_by_start;
-    uint32_t overrun;        /* fields that follow where the rules would have ended the frame */
-
-    enum field field;
-    unsigned count, bits, attempts, acked, length, control;
-    bool broadcast;
-    bool ack, bad;           /* drawn for the field */
-    uint8_t byte;
-};
+#include "line.h"
 
 static const uint8_t field_bits[] = {
     [FIELD_BROADCAST] = 0, [FIELD_MASTER] = ADDRESS_BITS, [FIELD_SLAVE] = ADDRESS_BITS,
     [FIELD_CONTROL] = CONTROL_BITS, [FIELD_LENGTH] = BYTE_BITS, [FIELD_DATA] = BYTE_BITS
 };
-
-static unsigned draw_length(struct random *r)
-{
-    static const uint32_t edges[] = {0, 15, 16, 17, 31, 32, 33, 34, 40, 255};
-    if (random_chance(r, 650))
-        return 1 + random_below(r, 4);
-    return random_chance(r, 700) ? random_of(r, edges, 10) : random_below(r, 256);
-}
-
-static unsigned draw_control(struct random *r)
-{
-    static const uint32_t accepted[] = {0x0, 0x0, 0x3, 0x6, 0x7, 0xA, 0xB, 0xF, 0xE};
-    return random_chance(r, 600) ? random_of(r, accepted, 9) : random_below(r, 16);
-}
-
-static void draw_master(struct traffic *t, struct master *m)
-{
-    struct random *r = &t->random;
-    m->in = true;
-    m->broadcast = random_chance(r, 250);
-    m->address = t->unit.locked && random_chance(r, 400) ? t->unit.holder : pool_address(t);
-    m->slave = random_chance(r, t->habits.own_slave) ? own_address(&t->unit) : pool_address(t);
-    if (m->broadcast && random_chance(r, 400))
-        m->slave = GENERAL_BROADCAST;
-    m->control = draw_control(r);
-    m->length = draw_length(r);
-    m->bad_fields = random_chance(r, 120) ? 1u << (FIELD_MASTER + random_below(r, 4)) : 0;
-}
-
-/* Where the frame is disturbed: at any of its first slots, or at a P or an A, which rules name apart. */
-static void draw_disturbances(struct traffic *t, struct line *l)
-{
-    static const uint32_t edges[] = {13, 13, 26, 27, 32, 33, 42, 43, 52, 53};
-    struct random *r = &t->random;
-    l->cut_at = NEVER;
-    if (random_chance(r, t->habits.cut))
-        l->cut_at = random_below(r, random_chance(r, 800) ? 90 : 400);
-    l->cut_by_start = random_chance(r, 400);
-    l->noise_at = NEVER;
-    if (random_chance(r, 150))
-        l->noise_at = random_chance(r, 600) ? random_of(r, edges, 10) : random_below(r, 90);
-    l->overrun = random_chance(r, 120) ? 1 + random_below(r, 3) : 0;
-}
-
-static void draw_line(struct traffic *t, struct line *l)
-{
-    static const uint32_t naks[] = {0, 0, 0, 100, 400, 1000};
-    static const uint32_t hosts[] = {0, 0, 0, 20, 50, 200, 600};
-    static const uint32_t refills[] = {0, 50, 200};
-    static const uint32_t timely[] = {0, 200, 600};
-    static const uint32_t leaves[] = {0, 100, 300};
-    struct random *r = &t->random;
-    memset(l, 0, sizeof *l);
-    bool unit_starts = t->unit.marq && !request_holds_back(&t->unit);
-    l->masters_len = unit_starts && random_chance(r, 500) ? 0 : 1 + random_below(r, MAX_MASTERS);
-    if (!unit_starts && random_chance(r, 600))
-        l->masters_len = 1;
-    for (uint32_t i = 0; i < l->masters_len; i++)
-        draw_master(t, &l->masters[i]);
-    l->slave_answers = random_chance(r, l->masters_len == 0 ? 850 : 250);
-    l->slave_length = draw_length(r);
-    l->nak = random_of(r, naks, 6);
-    l->bad_data = random_of(r, naks, 6);
-    l->host = random_of(r, hosts, 7);
-    l->refill = random_of(r, refills, 3);
-    l->leave = random_of(r, leaves, 3);
-    l->timely = random_of(r, timely, 3);
-    draw_disturbances(t, l);
-}
 
 static void enter_field(struct traffic *t, struct line *l, enum field field)
 {
@@ -252,11 +154,13 @@ static bool unit_wants_data(const struct traffic *t)
 static void words_between_slots(struct traffic *t, struct line *l)
 {
     struct random *r = &t->random;
-    if (random_chance(r, l->host))
+    if (t->between_slots)
+        t->between_slots(t);
+    else if (random_chance(r, l->host))
         host_word(t);
-    if (unit_wants_data(t) && random_chance(r, l->refill))
+    if (!t->between_slots && unit_wants_data(t) && random_chance(r, l->refill))
         host_refill(t);
-    if (in_acknowledge(l) && random_chance(r, l->timely))
+    if (!t->between_slots && in_acknowledge(l) && random_chance(r, l->timely))
         host_after_judgement(t);
     if (random_chance(r, 3))
         emit(t, random_below(r, 4) | 4u << random_below(r, 26));

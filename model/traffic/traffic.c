@@ -2,9 +2,19 @@
    full. */
 #include "traffic.h"
 
+/* "no master request standing then or accepted later" */
+static bool requests_master(const struct traffic *t, uint32_t word)
+{
+    if (word != ((uint32_t)KIND_WRITE << KIND_SHIFT | WRITE_CMR << REGISTER_SHIFT | CMR_MASTER_REQUEST))
+        return false;
+    struct unit trial = t->unit;
+    model_step(&trial, word);
+    return trial.marq;
+}
+
 void emit(struct traffic *t, uint32_t word)
 {
-    if (traffic_full(t))
+    if (traffic_full(t) || (t->no_master_request && requests_master(t, word)))
         return;
     uint32_t answer = model_step(&t->unit, word);
     t->words[t->len] = word;
@@ -70,14 +80,12 @@ void traffic_begin(struct traffic *t, uint64_t seed, uint32_t *words, uint32_t *
 {
     /* Drawn once: a list that resets at all has no unit with a long life. */
     static const uint32_t resets[] = {0, 0, 30, 100, 300};
-    t->random = random_seeded(seed);
+    *t = (struct traffic){.random = random_seeded(seed), .drive = DRIVE_RELEASED};
     t->habits.reset = random_of(&t->random, resets, 5);
     draw_habits(t);
     model_reset(&t->unit);
-    t->drive = DRIVE_RELEASED;
     t->words = words;
     t->answers = answers;
-    t->len = 0;
     t->capacity = capacity;
 }
 

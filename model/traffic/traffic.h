@@ -20,6 +20,9 @@ struct habits {
     uint32_t no_idle;        /* no idle slot before the next start */
 };
 
+/* Whose frames line_frame makes: anybody's, those of the master `holder` alone, or all but its. */
+enum whose { FRAMES_OF_ALL, FRAMES_OF_HOLDER, FRAMES_OF_STRANGERS };
+
 struct traffic {
     struct random random;
     struct habits habits;
@@ -29,6 +32,13 @@ struct traffic {
     uint32_t *answers;       /* the model's, place for place */
     size_t len;
     size_t capacity;
+
+    /* Limits for lists that demand 3 speaks of; all zero for free traffic. */
+    enum whose whose;
+    unsigned holder;
+    bool idle_between_starts;
+    bool no_master_request;  /* a request that the unit would accept is left out */
+    void (*between_slots)(struct traffic *t);   /* in place of the host words that fall inside a frame */
 };
 
 /* Fills words and answers with capacity places, from a reset unit. The same seed and capacity give the same list. */
