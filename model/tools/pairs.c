@@ -33,23 +33,59 @@ static bool locked_and_waiting(const struct unit *u)
     return u->locked && u->frame.field == WAITING && !u->marq;
 }
 
+/* A field of a frame that the unit acknowledges with A, where A follows. */
+static void emit_field(struct traffic *t, unsigned value, unsigned bits, bool acknowledged)
+{
+    for (unsigned left = bits; left > 0; left--)
+        emit_slot(t, value >> (left - 1) & 1);
+    emit_slot(t, parity(value));
+    if (acknowledged)
+        emit_slot(t, SLOT_LEVEL_0);
+}
+
+/* The shortest way to a lock: one AH or BH, cut after its length's ACK. */
+static void lock_at_once(struct traffic *t)
+{
+    struct random *r = &t->random;
+    unsigned own = random_below(r, MAX_ADDRESS + 1);
+    unsigned holder = random_chance(r, 300) ? own ^ 1u << random_below(r, ADDRESS_BITS) : random_below(r, MAX_ADDRESS);
+    emit_write(t, WRITE_UAR1, (own & 0xF) << 4 | UAR1_SENDING_ENABLED | random_below(r, 2));
+    emit_write(t, WRITE_UAR2, own >> 4);
+    emit_write(t, WRITE_CTR, CTR_SET_SLRE);
+    emit_slot(t, SLOT_START);
+    emit_slot(t, SLOT_LEVEL_1);
+    emit_field(t, holder, ADDRESS_BITS, false);
+    emit_field(t, own, ADDRESS_BITS, true);
+    emit_field(t, random_chance(r, 500) ? CONTROL_COMMAND_LOCK : CONTROL_DATA_LOCK, CONTROL_BITS, true);
+    emit_field(t, random_below(r, 256), BYTE_BITS, true);
+    emit_slot(t, SLOT_IDLE);
+}
+
+/* Free traffic until the unit waits and is locked. */
+static void lock_in_traffic(struct traffic *t)
+{
+    while (!traffic_full(t)) {
+        host_between_frames(t);
+        emit_slot(t, SLOT_IDLE);
+        if (locked_and_waiting(&t->unit) && random_chance(&t->random, 400))
+            return;
+        line_frame(t);
+        if (locked_and_waiting(&t->unit) && random_chance(&t->random, 200))
+            return;
+    }
+}
+
 static bool make_prefix(struct pair *p, uint64_t seed)
 {
-    static uint32_t answers[PAIR_WORDS];
     struct traffic t;
-    traffic_begin(&t, seed, p->prefix, answers, PAIR_WORDS / 2);
-    while (!traffic_full(&t)) {
-        host_between_frames(&t);
-        emit_slot(&t, SLOT_IDLE);
-        if (locked_and_waiting(&t.unit) && random_chance(&t.random, 400))
-            break;
-        line_frame(&t);
-        if (locked_and_waiting(&t.unit) && random_chance(&t.random, 200))
-            break;
-    }
+    traffic_begin(&t, seed, p->prefix, p->prefix_answers, PAIR_WORDS / 2);
+    if (random_chance(&t.random, 400))
+        lock_at_once(&t);
+    else
+        lock_in_traffic(&t);
     p->prefix_len = t.len;
     p->begin = t.unit;
-    return !traffic_full(&t);
+    return locked_and_waiting(&t.unit) && !traffic_full(&t);
 }
 
 static void begin_list(struct traffic *t, const struct pair *p, uint64_t seed, uint32_t *words, uint32_t *answers)

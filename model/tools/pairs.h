@@ -8,6 +8,7 @@
 
 struct pair {
     uint32_t prefix[PAIR_WORDS];     /* from a reset unit to the state in which both lists begin */
+    uint32_t prefix_answers[PAIR_WORDS];
     size_t prefix_len;
     struct unit begin;               /* waiting for a start, locked, no master request */
     uint32_t words[2][PAIR_WORDS];
