@@ -13,8 +13,8 @@ static unsigned draw_length(struct random *r)
 
 static unsigned draw_control(struct random *r)
 {
-    static const uint32_t accepted[] = {0x0, 0x0, 0x3, 0x6, 0x7, 0xA, 0xB, 0xF, 0xE};
-    return random_chance(r, 600) ? random_of(r, accepted, 9) : random_below(r, 16);
+    static const uint32_t accepted[] = {0x0, 0x0, 0x3, 0x4, 0x5, 0x6, 0x7, 0xA, 0xB, 0xF, 0xE};
+    return random_chance(r, 700) ? random_of(r, accepted, 11) : random_below(r, 16);
 }
 
 static void draw_master(struct traffic *t, struct master *m)
@@ -34,16 +34,20 @@ static void draw_master(struct traffic *t, struct master *m)
 /* Where the frame is disturbed: at any of its first slots, or at a P or an A, which rules name apart. */
 static void draw_disturbances(struct traffic *t, struct line *l)
 {
-    static const uint32_t edges[] = {13, 13, 26, 27, 32, 33, 42, 43, 52, 53};
+    static const uint32_t edges[] = {0, 13, 13, 26, 27, 28, 32, 33, 42, 43, 52, 53};
     struct random *r = &t->random;
     l->cut_at = NEVER;
     if (random_chance(r, t->habits.cut))
-        l->cut_at = random_below(r, random_chance(r, 800) ? 90 : 400);
+        l->cut_at = random_chance(r, 800) ? random_below(r, 90) : random_below(r, 400);
+    if (l->cut_at != NEVER && random_chance(r, 250))
+        l->cut_at = random_of(r, edges, 12);
     l->cut_by_start = random_chance(r, 400);
     l->noise_at = NEVER;
-    if (random_chance(r, 150))
-        l->noise_at = random_chance(r, 600) ? random_of(r, edges, 10) : random_below(r, 90);
+    if (random_chance(r, 200))
+        l->noise_at = random_chance(r, 500) ? random_of(r, edges, 12) : random_below(r, 56);
     l->overrun = random_chance(r, 120) ? 1 + random_below(r, 3) : 0;
+    if (random_chance(r, 40))
+        l->spoiled = random_chance(r, 800) ? attempt_limit(t->unit.uar1 & UAR1_MODE) - 1u : random_below(r, 33);
 }
 
 /* The levels that say whose frame it is: the broadcast bit and the master address. */
@@ -83,7 +87,7 @@ void draw_line(struct traffic *t, struct line *l)
     struct random *r = &t->random;
     memset(l, 0, sizeof *l);
     bool unit_starts = t->unit.marq && !request_holds_back(&t->unit);
-    l->masters_len = unit_starts && random_chance(r, 500) ? 0 : 1 + random_below(r, MAX_MASTERS);
+    l->masters_len = unit_starts && !random_chance(r, t->habits.contend) ? 0 : 1 + random_below(r, MAX_MASTERS);
     if (!unit_starts && random_chance(r, 600))
         l->masters_len = 1;
     for (uint32_t i = 0; i < l->masters_len; i++)
@@ -97,5 +101,8 @@ void draw_line(struct traffic *t, struct line *l)
     l->leave = random_of(r, leaves, 3);
     l->timely = random_of(r, timely, 3);
     draw_disturbances(t, l);
+    /* A frame of many attempts is the one in which a mode written late would show. */
+    if (l->spoiled && random_chance(r, 500))
+        l->timely = 600;
     limit_masters(t, l);
 }

@@ -105,22 +105,27 @@ static void ask_to_send(struct traffic *t, bool offer)
     emit_write(t, WRITE_CMR, offer ? CMR_OFFER_SLAVE_DATA : CMR_MASTER_REQUEST);
 }
 
-static void empty_rbf(struct traffic *t)
+void host_empty_rbf(struct traffic *t)
 {
     while (t->unit.rbf.count > 0 && !traffic_full(t))
         emit_read(t, READ_RBF);
+}
+
+void host_offer(struct traffic *t)
+{
+    ask_to_send(t, true);
 }
 
 /* What the status byte, the mode and a control's judgement rest on. */
 static void turn_state(struct traffic *t)
 {
     struct random *r = &t->random;
-    switch (random_below(r, 5)) {
+    switch (random_below(r, 6)) {
     case 0: emit_write(t, WRITE_CTR, CTR_SET_SLRE); break;
     case 1: emit_write(t, WRITE_CMR, CMR_CLEAR_SLRE); break;
-    case 2: ask_to_send(t, true); break;
-    case 3: emit_write(t, WRITE_UAR1, t->unit.uar1 ^ (1 + random_below(r, 3))); break;
-    default: empty_rbf(t);
+    case 2: host_offer(t); break;
+    case 3: case 4: emit_write(t, WRITE_UAR1, t->unit.uar1 ^ (1 + random_below(r, 3))); break;
+    default: host_empty_rbf(t);
     }
 }
 
@@ -154,7 +159,7 @@ static void requests(struct traffic *t)
         else
             emit_write(t, WRITE_CMR, CMR_MASTER_REQUEST);
     } else if (random_chance(r, t->habits.offer)) {
-        ask_to_send(t, true);
+        host_offer(t);
     }
 }
 
@@ -164,7 +169,7 @@ void host_between_frames(struct traffic *t)
     if (random_chance(r, t->habits.look))
         host_look(t);
     if (random_chance(r, t->habits.empty_rbf))
-        empty_rbf(t);
+        host_empty_rbf(t);
     else if (random_chance(r, 200))
         emit_read(t, READ_RBF);
     if (random_chance(r, 30) || (t->unit.uar2 == 0 && random_chance(r, 300)))

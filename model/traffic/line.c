@@ -14,8 +14,9 @@ static void enter_field(struct traffic *t, struct line *l, enum field field)
     l->count = 0;
     l->bits = 0;
     /* A NAK before the data stops the frame, so it comes less often than one that repeats a byte. */
-    l->ack = !random_chance(r, field == FIELD_DATA ? l->nak : l->nak / 8);
-    l->bad = field == FIELD_DATA && random_chance(r, l->bad_data);
+    bool spoiled = field == FIELD_DATA && l->attempts < l->spoiled;
+    l->ack = !spoiled && !random_chance(r, field == FIELD_DATA ? l->nak : l->nak / 8);
+    l->bad = spoiled || random_chance(r, field == FIELD_DATA ? l->bad_data : l->bad_data / 8);
 }
 
 /* The level of a slot among a field's bits and P, highest bit first. */
@@ -162,6 +163,9 @@ static void words_between_slots(struct traffic *t, struct line *l)
         host_refill(t);
     if (!t->between_slots && in_acknowledge(l) && random_chance(r, l->timely))
         host_after_judgement(t);
+    /* An offer after the contest lets a loser whose request was aborted send as a slave. */
+    if (!t->between_slots && l->field == FIELD_SLAVE && l->count == 0 && random_chance(r, l->timely))
+        host_offer(t);
     if (random_chance(r, 3))
         emit(t, random_below(r, 4) | 4u << random_below(r, 26));
     /* "a level the line cannot have" */

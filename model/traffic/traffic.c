@@ -63,14 +63,18 @@ static void draw_habits(struct traffic *t)
 {
     static const uint32_t rare[] = {0, 10, 50, 200};
     static const uint32_t often[] = {100, 400, 700, 950};
-    static const uint32_t any[] = {0, 100, 400, 800};
+    static const uint32_t any[] = {0, 200, 500, 900};
     struct random *r = &t->random;
     t->habits.garble = random_of(r, rare, 4);
     t->habits.no_idle = random_of(r, rare, 4);
     t->habits.look = random_of(r, often, 4);
     t->habits.request = random_of(r, any, 4);
+    t->habits.contend = random_of(r, often, 4);
     t->habits.offer = random_of(r, any, 4);
     t->habits.enable = random_of(r, any, 4);
+    /* UAR can be written only where no flag is set. */
+    if (random_chance(r, 150))
+        t->habits.request = t->habits.offer = t->habits.enable = 0;
     t->habits.empty_rbf = random_of(r, often, 4);
     t->habits.own_slave = random_of(r, often, 4);
     t->habits.cut = random_of(r, often, 3);
@@ -126,6 +130,8 @@ void traffic_make(struct traffic *t, uint64_t seed, uint32_t *words, uint32_t *a
             emit_slot(t, SLOT_IDLE);
         if (random_chance(r, 100))
             outside_frames(t);
+        if (t->unit.marq && request_holds_back(&t->unit) && random_chance(r, 200))
+            host_empty_rbf(t);
         if (random_chance(r, 5))
             draw_habits(t);
         line_frame(t);
