@@ -6,7 +6,7 @@
 #include "unit.h"
 
 /* "Slots in order: start, broadcast bit .., 12 master address, P, 12 slave address, P, A, 4 control, P, A, 8 length,
-   P, A, then 8 data, P, A for each attempt." The bits of each field with its P; the A that may follow is not counted. */
+   P, A, then 8 data, P, A for each attempt." The bits of each field with its P, without the A that may follow. */
 static const uint8_t bits_with_parity[] = {
     [FIELD_BROADCAST] = 1,
     [FIELD_MASTER] = ADDRESS_BITS + 1,

@@ -44,6 +44,10 @@ static void note_level(const struct moment *m)
 
 void memory_note(const struct moment *m)
 {
+    if (is_slot(m, SLOT_START))
+        m->memory->life++;
+    if (is_write_of(m, WRITE_CTR, CTR_RESET))
+        m->memory->life = 0;
     if (is_host(m))
         note_host(m);
     else if (is_level(m))
@@ -63,6 +67,7 @@ void memory_forget(const struct moment *m)
         memset(m->memory, 0, sizeof *m->memory);
         m->memory->continued = kept.continued;
         m->memory->stranger_since = kept.stranger_since;
+        m->memory->life = kept.life;
     }
     if (is_slot(m, SLOT_IDLE))
         m->memory->level_at_start = false;

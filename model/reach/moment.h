@@ -18,6 +18,7 @@ struct memory {
     bool level_at_start;         /* a level met a unit that drove start */
     unsigned continued;          /* frames with which the holder continued the lock */
     bool stranger_since;         /* a stranger's frame came since the lock was taken */
+    unsigned life;               /* frames since the unit was reset */
 };
 
 struct moment {

@@ -11,7 +11,7 @@ enum particular {
     GROUP_CALL, INDIVIDUAL_FFF, TBF_FILLED, LENGTH_0_SENT, LENGTH_0_RECEIVED, RDR_35, WANTED_REFILLED_NORMAL,
     WANTED_REPEATED_EMPTY, WANTED_IN_LAST_ATTEMPT, STATUS_TURNED_IN_REPEAT, RESET_IN_FRAME, RESET_DRIVING_0,
     ACK_CUT_BY_IDLE, ACK_CUT_BY_START, LOSER_OFFERS_AND_SENDS, READ_MASTER_HELD_TBF, BOTH_PARITIES_MASTER_BAD,
-    BYTE_NAKED_THEN_ACKED, PARTICULARS
+    BYTE_NAKED_THEN_ACKED, EXCHANGE_AFTER_3000_FRAMES, PARTICULARS
 };
 static const char *const names[PARTICULARS] = {
     "a read request held back at a start", "the RBF read that empties it answers with drive 2",
@@ -29,7 +29,7 @@ static const char *const names[PARTICULARS] = {
     "reset inside a frame", "reset while driving 0", "idle in an A slot that the unit drives as 0",
     "start in such an A slot", "a request aborted by loss, 0BH, then sent in the same frame",
     "a read request ended with TBF not empty", "own slave address with bad master parity",
-    "a byte NAKed by the unit and then ACKed"
+    "a byte NAKed by the unit and then ACKed", "a complete exchange after 3,000 frames without a reset"
 };
 
 static void observe_starts(uint64_t *counts, const struct moment *m)
@@ -77,6 +77,7 @@ static void observe_receptions(uint64_t *counts, const struct moment *m)
     counts[RDR_35] += (a->rdr1 == 35 && b->rdr1 == 34) || (a->rdr2 == 35 && b->rdr2 == 34);
     counts[BOTH_PARITIES_MASTER_BAD] += at_parity(m, FIELD_SLAVE) && !f->master && !f->parity_held
                                      && a->frame.slave_address == own_address(b);
+    counts[EXCHANGE_AFTER_3000_FRAMES] += m->memory->life > 3000 && way_of(m) == WAY_NORMAL;
     counts[BYTE_NAKED_THEN_ACKED] += at_acknowledge(m, FIELD_DATA) && !f->sending && f->ack && f->attempts > f->acked;
 }
 

@@ -14,7 +14,7 @@
 #include "memory.h"
 
 #define DEFAULT_WORDS 40000000
-#define LIST_WORDS 100000
+#define LIST_WORDS 400000
 
 static const struct group *const groups[] = {
     &refusal_reasons, &refusal_places, &host_places, &codes, &code_steps, &status_values, &slave_controls,

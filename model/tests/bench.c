@@ -80,5 +80,6 @@ int main(void)
 {
     known_cases();
     scenes();
+    striking();
     return cases_failed > 0;
 }

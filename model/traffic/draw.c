@@ -31,23 +31,26 @@ static void draw_master(struct traffic *t, struct master *m)
     m->bad_fields = random_chance(r, 120) ? 1u << (FIELD_MASTER + random_below(r, 4)) : 0;
 }
 
-/* Where the frame is disturbed: at any of its first slots, or at a P or an A, which rules name apart. */
+/* Where the frame is disturbed: at any of its first slots, or at the control, a P or an A, which rules name apart. */
 static void draw_disturbances(struct traffic *t, struct line *l)
 {
-    static const uint32_t edges[] = {0, 13, 13, 26, 27, 28, 32, 33, 42, 43, 52, 53};
+    static const uint32_t edges[] = {0, 13, 13, 26, 27, 28, 29, 30, 31, 32, 33, 42, 43, 52, 53};
     struct random *r = &t->random;
     l->cut_at = NEVER;
     if (random_chance(r, t->habits.cut))
         l->cut_at = random_chance(r, 800) ? random_below(r, 90) : random_below(r, 400);
     if (l->cut_at != NEVER && random_chance(r, 250))
-        l->cut_at = random_of(r, edges, 12);
+        l->cut_at = random_of(r, edges, 15);
+    /* Start or idle right after the start slot. */
+    if (random_chance(r, 10))
+        l->cut_at = 0;
     l->cut_by_start = random_chance(r, 400);
     l->noise_at = NEVER;
     if (random_chance(r, 200))
-        l->noise_at = random_chance(r, 500) ? random_of(r, edges, 12) : random_below(r, 56);
+        l->noise_at = random_chance(r, 500) ? random_of(r, edges, 15) : random_below(r, 56);
     l->overrun = random_chance(r, 120) ? 1 + random_below(r, 3) : 0;
-    if (random_chance(r, 40))
-        l->spoiled = random_chance(r, 800) ? attempt_limit(t->unit.uar1 & UAR1_MODE) - 1u : random_below(r, 33);
+    if (random_chance(r, t->habits.spoil))
+        l->spoiled = random_chance(r, 800) ? l->limit - 1 : random_below(r, 33);
 }
 
 /* The levels that say whose frame it is: the broadcast bit and the master address. */
@@ -86,6 +89,7 @@ void draw_line(struct traffic *t, struct line *l)
     static const uint32_t leaves[] = {0, 100, 300};
     struct random *r = &t->random;
     memset(l, 0, sizeof *l);
+    l->limit = attempt_limit(t->unit.uar1 & UAR1_MODE);
     bool unit_starts = t->unit.marq && !request_holds_back(&t->unit);
     l->masters_len = unit_starts && !random_chance(r, t->habits.contend) ? 0 : 1 + random_below(r, MAX_MASTERS);
     if (!unit_starts && random_chance(r, 600))
@@ -94,6 +98,7 @@ void draw_line(struct traffic *t, struct line *l)
         draw_master(t, &l->masters[i]);
     l->slave_answers = random_chance(r, l->masters_len == 0 ? 850 : 250);
     l->slave_length = draw_length(r);
+    l->meddler = random_chance(r, t->habits.meddle);
     l->nak = random_of(r, naks, 6);
     l->bad_data = random_of(r, naks, 6);
     l->host = random_of(r, hosts, 7);

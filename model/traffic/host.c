@@ -11,15 +11,30 @@ void host_look(struct traffic *t)
         emit_read(t, registers[i]);
 }
 
+/* Values near those that CTR, CMR, UAR1, SAR1 and MCR list. */
+static void near_value(struct traffic *t)
+{
+    static const uint32_t values[] = {
+        0x00, 0x01, 0x04, 0x07, 0x08, 0x09, 0x0A, 0x0B, 0x0C, 0x0F, 0x10, 0x18, 0x20, 0x40, 0x48, 0x4B, 0x50, 0x80
+    };
+    static const uint32_t registers[] = {WRITE_CTR, WRITE_CMR, WRITE_UAR1, WRITE_SAR1, WRITE_MCR};
+    struct random *r = &t->random;
+    unsigned reg = random_of(r, registers, 5);
+    unsigned value = random_of(r, values, 18);
+    if (reg != WRITE_CTR || value != CTR_RESET)
+        emit_write(t, reg, value);
+}
+
 /* A word that some rule refuses whatever the state, or that looks like one. */
 static void malformed_word(struct traffic *t)
 {
     struct random *r = &t->random;
-    switch (random_below(r, 5)) {
+    switch (random_below(r, 6)) {
     case 0: emit(t, random_word(r)); break;
     case 1: emit(t, random_below(r, 3) << KIND_SHIFT | random_below(r, 1u << KIND_SHIFT)); break;
     case 2: emit_write(t, random_below(r, 16), random_below(r, 256)); break;
     case 3: emit_read(t, random_below(r, 16)); break;
+    case 4: near_value(t); break;
     default: emit(t, random_below(r, 4) | 4u << random_below(r, 26)); break;
     }
 }
@@ -46,15 +61,22 @@ static void mcr_word(struct traffic *t)
     static const uint32_t reads[] = {0x0, 0x3, 0x4, 0x5, 0x6, 0x7};
     struct random *r = &t->random;
     unsigned retries = random_chance(r, 700) ? random_below(r, 3) : random_below(r, 8);
-    bool read = random_chance(r, 400);
+    bool read = random_chance(r, t->habits.read_request);
     unsigned control = read ? random_of(r, reads, 6) : random_of(r, writes, 4);
     unsigned individual = read || random_chance(r, 700) ? MCR_INDIVIDUAL : 0;
     emit_write(t, WRITE_MCR, individual | retries << MCR_RETRIES_SHIFT | control);
 }
 
+/* A request right after a reset shows whether the reset has forgotten the latest slot. */
 static void reset_or_nothing(struct traffic *t)
 {
-    emit_write(t, WRITE_CTR, random_chance(&t->random, t->habits.reset) ? CTR_RESET : CTR_NOTHING);
+    struct random *r = &t->random;
+    bool reset = random_chance(r, t->habits.reset);
+    emit_write(t, WRITE_CTR, reset ? CTR_RESET : CTR_NOTHING);
+    if (reset && random_chance(r, 500)) {
+        emit_write(t, WRITE_SAR2, random_below(r, 256));
+        emit_write(t, WRITE_CMR, CMR_MASTER_REQUEST);
+    }
 }
 
 void host_word(struct traffic *t)
@@ -63,7 +85,11 @@ void host_word(struct traffic *t)
         READ_STR, READ_FLG, READ_RDR1, READ_RDR2, READ_LOR1, READ_LOR2, READ_RCR, READ_RCR, READ_RBF, READ_FLG
     };
     struct random *r = &t->random;
-    switch (random_below(r, 24)) {
+    /* A quiet host sets no flag. */
+    uint32_t choice = random_below(r, 24);
+    if (t->habits.quiet && choice >= 9 && choice <= 14)
+        choice = 15;
+    switch (choice) {
     case 0: case 1: case 2: case 3: case 4: case 5: emit_read(t, random_of(r, reads, 10)); break;
     case 6: emit_read(t, READ_RCR); break;
     case 7: case 8: emit_write(t, WRITE_TBF, random_chance(r, 500) ? random_below(r, 6) : random_below(r, 256)); break;
@@ -91,6 +117,10 @@ static void fill_tbf(struct traffic *t)
     unsigned bytes = length_in_bytes((uint8_t)length);
     if (random_chance(r, 350))
         bytes = 1 + random_below(r, bytes);
+    /* As many bytes as the frame has attempts: TBF then runs empty in the last one. */
+    unsigned limit = attempt_limit(t->unit.uar1 & UAR1_MODE);
+    if (bytes > limit && random_chance(r, 300))
+        bytes = limit;
     if (bytes > TBF_CAPACITY - 1)
         bytes = TBF_CAPACITY - 1 + random_below(r, 3);
     emit_write(t, WRITE_TBF, length);
@@ -129,15 +159,24 @@ static void turn_state(struct traffic *t)
     }
 }
 
+void host_turn_uar(struct traffic *t)
+{
+    struct random *r = &t->random;
+    unsigned called = t->unit.frame.slave_address;
+    if (random_chance(r, 500))
+        emit_write(t, WRITE_UAR1, t->unit.uar1 ^ (1 + random_below(r, 3)));
+    else
+        write_address(t, WRITE_UAR1, WRITE_UAR2, random_chance(r, 500) ? called : pool_address(t),
+                      UAR1_SENDING_ENABLED | random_below(r, 2));
+}
+
 /* "A judgement is made with the P slot's word, from the state then, and later host words do not change it." */
 void host_after_judgement(struct traffic *t)
 {
-    struct random *r = &t->random;
-    if (t->unit.frame.field != FIELD_SLAVE)
-        turn_state(t);
+    if (t->habits.quiet || (t->unit.frame.field == FIELD_SLAVE && random_chance(&t->random, 500)))
+        host_turn_uar(t);
     else
-        write_address(t, WRITE_UAR1, WRITE_UAR2, random_chance(r, 500) ? t->unit.frame.slave_address : pool_address(t),
-                      UAR1_SENDING_ENABLED | random_below(r, 2));
+        turn_state(t);
 }
 
 void host_refill(struct traffic *t)
@@ -174,6 +213,10 @@ void host_between_frames(struct traffic *t)
         emit_read(t, READ_RBF);
     if (random_chance(r, 30) || (t->unit.uar2 == 0 && random_chance(r, 300)))
         own_address_words(t);
+    if (t->habits.quiet && t->unit.slre)
+        emit_write(t, WRITE_CMR, CMR_CLEAR_SLRE);
+    if (random_chance(r, 100))
+        reset_or_nothing(t);
     if (!t->unit.marq && !t->unit.strq)
         requests(t);
     if (!t->unit.slre && random_chance(r, t->habits.enable))

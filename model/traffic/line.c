@@ -66,7 +66,7 @@ static unsigned slave_level(const struct line *l)
 /* What all parties but the unit make of the slot. */
 static unsigned others_level(const struct line *l)
 {
-    unsigned level = l->slots != l->noise_at;
+    unsigned level = l->slots != l->noise_at && !(l->meddler && in_acknowledge(l));
     for (uint32_t i = 0; i < l->masters_len; i++)
         if (l->masters[i].in)
             level &= master_level(l, &l->masters[i]);
@@ -99,7 +99,7 @@ static bool after_data(struct traffic *t, struct line *l, bool ack)
         l->byte = (uint8_t)random_word(&t->random);
     }
     enter_field(t, l, FIELD_DATA);
-    bool ended = l->acked >= l->length || l->attempts >= attempt_limit(t->unit.uar1 & UAR1_MODE);
+    bool ended = l->acked >= l->length || l->attempts >= l->limit;
     return !ended || goes_on(l);
 }
 
@@ -152,20 +152,35 @@ static bool unit_wants_data(const struct traffic *t)
     return f->field >= FIELD_LENGTH && f->sending && t->unit.tbf.count == 0;
 }
 
+/* Host words at the places where a rule asks whether they come too early or too late. */
+static void timely_words(struct traffic *t, struct line *l)
+{
+    struct random *r = &t->random;
+    if (unit_wants_data(t) && random_chance(r, l->refill))
+        host_refill(t);
+    if (in_acknowledge(l) && random_chance(r, 40))
+        emit_read(t, READ_RCR);
+    if (in_acknowledge(l) && random_chance(r, l->timely))
+        host_after_judgement(t);
+    if (t->habits.quiet && l->field == FIELD_MASTER && random_chance(r, l->timely / 16))
+        host_turn_uar(t);
+    if (l->field == FIELD_CONTROL && t->unit.rbf.count > 0 && random_chance(r, l->timely / 8))
+        host_empty_rbf(t);
+    /* An offer after the contest lets a loser whose request was aborted send as a slave. */
+    if (!t->habits.quiet && l->field == FIELD_SLAVE && l->count == 0 && random_chance(r, l->timely))
+        host_offer(t);
+}
+
 static void words_between_slots(struct traffic *t, struct line *l)
 {
     struct random *r = &t->random;
-    if (t->between_slots)
+    if (t->between_slots) {
         t->between_slots(t);
-    else if (random_chance(r, l->host))
-        host_word(t);
-    if (!t->between_slots && unit_wants_data(t) && random_chance(r, l->refill))
-        host_refill(t);
-    if (!t->between_slots && in_acknowledge(l) && random_chance(r, l->timely))
-        host_after_judgement(t);
-    /* An offer after the contest lets a loser whose request was aborted send as a slave. */
-    if (!t->between_slots && l->field == FIELD_SLAVE && l->count == 0 && random_chance(r, l->timely))
-        host_offer(t);
+    } else {
+        if (random_chance(r, l->host))
+            host_word(t);
+        timely_words(t, l);
+    }
     if (random_chance(r, 3))
         emit(t, random_below(r, 4) | 4u << random_below(r, 26));
     /* "a level the line cannot have" */

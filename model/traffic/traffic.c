@@ -59,6 +59,37 @@ unsigned pool_address(struct traffic *t)
     }
 }
 
+/* Habits in which one part of the rules is met more often than mixed traffic meets it. */
+static void draw_theme(struct habits *h, uint32_t theme)
+{
+    h->quiet = false;
+    switch (theme) {
+    case 0:
+        h->quiet = true;
+        h->request = h->offer = h->enable = 0;
+        h->own_slave = 950;
+        h->spoil = 300;
+        h->cut = 50;
+        break;
+    case 1: case 2:
+        h->read_request = theme == 1 ? 900 : 50;
+        h->request = h->empty_rbf = 900;
+        h->contend = h->cut = 100;
+        h->offer = 0;
+        h->meddle = 150;
+        break;
+    case 3:
+        h->request = h->contend = h->enable = 900;
+        h->cut = 100;
+        break;
+    case 4:
+        h->request = 0;
+        h->own_slave = h->enable = h->empty_rbf = 900;
+        h->offer = 600;
+        break;
+    }
+}
+
 static void draw_habits(struct traffic *t)
 {
     static const uint32_t rare[] = {0, 10, 50, 200};
@@ -72,12 +103,12 @@ static void draw_habits(struct traffic *t)
     t->habits.contend = random_of(r, often, 4);
     t->habits.offer = random_of(r, any, 4);
     t->habits.enable = random_of(r, any, 4);
-    /* UAR can be written only where no flag is set. */
-    if (random_chance(r, 150))
-        t->habits.request = t->habits.offer = t->habits.enable = 0;
     t->habits.empty_rbf = random_of(r, often, 4);
     t->habits.own_slave = random_of(r, often, 4);
     t->habits.cut = random_of(r, often, 3);
+    t->habits.read_request = 400;
+    t->habits.spoil = t->habits.meddle = 40;
+    draw_theme(&t->habits, random_below(r, 8));
 }
 
 void traffic_begin(struct traffic *t, uint64_t seed, uint32_t *words, uint32_t *answers, size_t capacity)
@@ -121,6 +152,9 @@ void traffic_make(struct traffic *t, uint64_t seed, uint32_t *words, uint32_t *a
     struct random *r = &t->random;
     bool formless = random_chance(r, 30);
     while (!traffic_full(t)) {
+        /* The host's words meet a line that is idle, and one that is not. */
+        if (random_chance(r, 500) && !random_chance(r, t->habits.no_idle))
+            emit_slot(t, SLOT_IDLE);
         host_between_frames(t);
         if (formless || random_chance(r, 5)) {
             formless_words(t);
@@ -132,7 +166,7 @@ void traffic_make(struct traffic *t, uint64_t seed, uint32_t *words, uint32_t *a
             outside_frames(t);
         if (t->unit.marq && request_holds_back(&t->unit) && random_chance(r, 200))
             host_empty_rbf(t);
-        if (random_chance(r, 5))
+        if (random_chance(r, 10))
             draw_habits(t);
         line_frame(t);
     }

@@ -12,13 +12,17 @@ struct habits {
     uint32_t garble;         /* random words between frames */
     uint32_t look;           /* the host reads all registers after a frame */
     uint32_t request;        /* the host prepares a master request */
+    uint32_t read_request;   /* and it reads */
     uint32_t contend;        /* simulated masters start in the same slot as the unit */
     uint32_t offer;          /* the host offers slave data */
     uint32_t enable;         /* the host sets SLRE */
     uint32_t empty_rbf;      /* the host reads RBF until it is empty */
     uint32_t own_slave;      /* a simulated master calls the unit */
     uint32_t cut;            /* a frame is cut */
+    uint32_t spoil;          /* a frame's first attempts all fail */
+    uint32_t meddle;         /* somebody drives 0 in every A slot of a frame */
     uint32_t no_idle;        /* no idle slot before the next start */
+    bool quiet;              /* no flag is set for long, so that UAR can be written */
 };
 
 /* Whose frames line_frame makes: anybody's, those of the master `holder` alone, or all but its. */
@@ -62,10 +66,12 @@ void emit_read(struct traffic *t, unsigned reg);
 /* An address from a small pool: the unit's own, the holder, near misses, the same group, FFFH, others. */
 unsigned pool_address(struct traffic *t);
 
-/* The host: one word at any place, one that would turn a judgement just made, slave data offered, RBF read until it is
-   empty, TBF bytes for a sender that wants data, all registers read, and its work between frames. */
+/* The host: one word at any place, one that would turn a judgement just made, own address and mode written, slave data
+   offered, RBF read until it is empty, TBF bytes for a sender that wants data, all registers read, and its work
+   between frames. */
 void host_word(struct traffic *t);
 void host_after_judgement(struct traffic *t);
+void host_turn_uar(struct traffic *t);
 void host_offer(struct traffic *t);
 void host_empty_rbf(struct traffic *t);
 void host_refill(struct traffic *t);
