@@ -11,7 +11,6 @@ struct memory {
     bool refilled;               /* TBF was written after that */
     bool repeated_empty;         /* and a byte was repeated with TBF empty */
     bool slre_cleared, slre_set; /* by the host, after the control of a write was accepted */
-    bool offered_late;           /* STRQ was set between P and A of the control */
     bool own_turned;             /* the own address was written inside the frame */
     uint8_t status_fixed;        /* the status byte as it goes out, 0 for none */
     bool status_turned;          /* the status has changed since */

@@ -8,13 +8,13 @@ static unsigned draw_length(struct random *r)
     static const uint32_t edges[] = {0, 15, 16, 17, 31, 32, 33, 34, 40, 255};
     if (random_chance(r, 650))
         return 1 + random_below(r, 4);
-    return random_chance(r, 700) ? random_of(r, edges, 10) : random_below(r, 256);
+    return random_chance(r, 700) ? random_pick(r, edges) : random_below(r, 256);
 }
 
 static unsigned draw_control(struct random *r)
 {
     static const uint32_t accepted[] = {0x0, 0x0, 0x3, 0x4, 0x5, 0x6, 0x7, 0xA, 0xB, 0xF, 0xE};
-    return random_chance(r, 700) ? random_of(r, accepted, 11) : random_below(r, 16);
+    return random_chance(r, 700) ? random_pick(r, accepted) : random_below(r, 16);
 }
 
 static void draw_master(struct traffic *t, struct master *m)
@@ -40,14 +40,14 @@ static void draw_disturbances(struct traffic *t, struct line *l)
     if (random_chance(r, t->habits.cut))
         l->cut_at = random_chance(r, 800) ? random_below(r, 90) : random_below(r, 400);
     if (l->cut_at != NEVER && random_chance(r, 250))
-        l->cut_at = random_of(r, edges, 15);
+        l->cut_at = random_pick(r, edges);
     /* Start or idle right after the start slot. */
     if (random_chance(r, 10))
         l->cut_at = 0;
     l->cut_by_start = random_chance(r, 400);
     l->noise_at = NEVER;
     if (random_chance(r, 200))
-        l->noise_at = random_chance(r, 500) ? random_of(r, edges, 15) : random_below(r, 56);
+        l->noise_at = random_chance(r, 500) ? random_pick(r, edges) : random_below(r, 56);
     l->overrun = random_chance(r, 120) ? 1 + random_below(r, 3) : 0;
     if (random_chance(r, t->habits.spoil))
         l->spoiled = random_chance(r, 800) ? l->limit - 1 : random_below(r, 33);
@@ -99,12 +99,12 @@ void draw_line(struct traffic *t, struct line *l)
     l->slave_answers = random_chance(r, l->masters_len == 0 ? 850 : 250);
     l->slave_length = draw_length(r);
     l->meddler = random_chance(r, t->habits.meddle);
-    l->nak = random_of(r, naks, 6);
-    l->bad_data = random_of(r, naks, 6);
-    l->host = random_of(r, hosts, 7);
-    l->refill = random_of(r, refills, 3);
-    l->leave = random_of(r, leaves, 3);
-    l->timely = random_of(r, timely, 3);
+    l->nak = random_pick(r, naks);
+    l->bad_data = random_pick(r, naks);
+    l->host = random_pick(r, hosts);
+    l->refill = random_pick(r, refills);
+    l->leave = random_pick(r, leaves);
+    l->timely = random_pick(r, timely);
     draw_disturbances(t, l);
     /* A frame of many attempts is the one in which a mode written late would show. */
     if (l->spoiled && random_chance(r, 500))

@@ -19,8 +19,8 @@ static void near_value(struct traffic *t)
     };
     static const uint32_t registers[] = {WRITE_CTR, WRITE_CMR, WRITE_UAR1, WRITE_SAR1, WRITE_MCR};
     struct random *r = &t->random;
-    unsigned reg = random_of(r, registers, 5);
-    unsigned value = random_of(r, values, 18);
+    unsigned reg = random_pick(r, registers);
+    unsigned value = random_pick(r, values);
     if (reg != WRITE_CTR || value != CTR_RESET)
         emit_write(t, reg, value);
 }
@@ -50,7 +50,7 @@ static void own_address_words(struct traffic *t)
 {
     static const uint32_t choices[] = {0x525, 0xFFF, 0x000, 0x0FF, 0x100, 0x5A5, 0xABC, 0xFFE, 0x7FF};
     struct random *r = &t->random;
-    unsigned address = random_chance(r, 300) ? random_below(r, MAX_ADDRESS + 1) : random_of(r, choices, 9);
+    unsigned address = random_chance(r, 300) ? random_below(r, MAX_ADDRESS + 1) : random_pick(r, choices);
     unsigned enabled = random_chance(r, 850) ? UAR1_SENDING_ENABLED : 0;
     write_address(t, WRITE_UAR1, WRITE_UAR2, address, enabled | random_below(r, 2));
 }
@@ -62,7 +62,7 @@ static void mcr_word(struct traffic *t)
     struct random *r = &t->random;
     unsigned retries = random_chance(r, 700) ? random_below(r, 3) : random_below(r, 8);
     bool read = random_chance(r, t->habits.read_request);
-    unsigned control = read ? random_of(r, reads, 6) : random_of(r, writes, 4);
+    unsigned control = read ? random_pick(r, reads) : random_pick(r, writes);
     unsigned individual = read || random_chance(r, 700) ? MCR_INDIVIDUAL : 0;
     emit_write(t, WRITE_MCR, individual | retries << MCR_RETRIES_SHIFT | control);
 }
@@ -90,7 +90,7 @@ void host_word(struct traffic *t)
     if (t->habits.quiet && choice >= 9 && choice <= 14)
         choice = 15;
     switch (choice) {
-    case 0: case 1: case 2: case 3: case 4: case 5: emit_read(t, random_of(r, reads, 10)); break;
+    case 0: case 1: case 2: case 3: case 4: case 5: emit_read(t, random_pick(r, reads)); break;
     case 6: emit_read(t, READ_RCR); break;
     case 7: case 8: emit_write(t, WRITE_TBF, random_chance(r, 500) ? random_below(r, 6) : random_below(r, 256)); break;
     case 9: case 10: emit_write(t, WRITE_CTR, CTR_SET_SLRE); break;
@@ -113,7 +113,7 @@ static void fill_tbf(struct traffic *t)
 {
     static const uint32_t lengths[] = {0, 1, 1, 2, 2, 3, 4, 5, 15, 16, 17, 31, 32, 33, 255};
     struct random *r = &t->random;
-    unsigned length = random_chance(r, 900) ? random_of(r, lengths, 15) : random_below(r, 256);
+    unsigned length = random_chance(r, 900) ? random_pick(r, lengths) : random_below(r, 256);
     unsigned bytes = length_in_bytes((uint8_t)length);
     if (random_chance(r, 350))
         bytes = 1 + random_below(r, bytes);

@@ -39,4 +39,7 @@ static inline uint32_t random_of(struct random *r, const uint32_t *choices, uint
     return choices[random_below(r, count)];
 }
 
+/* One of all the choices of an array. */
+#define random_pick(r, choices) random_of(r, choices, sizeof(choices) / sizeof *(choices))
+
 #endif

@@ -95,17 +95,18 @@ static void draw_habits(struct traffic *t)
     static const uint32_t rare[] = {0, 10, 50, 200};
     static const uint32_t often[] = {100, 400, 700, 950};
     static const uint32_t any[] = {0, 200, 500, 900};
+    static const uint32_t cuts[] = {100, 400, 700};
     struct random *r = &t->random;
-    t->habits.garble = random_of(r, rare, 4);
-    t->habits.no_idle = random_of(r, rare, 4);
-    t->habits.look = random_of(r, often, 4);
-    t->habits.request = random_of(r, any, 4);
-    t->habits.contend = random_of(r, often, 4);
-    t->habits.offer = random_of(r, any, 4);
-    t->habits.enable = random_of(r, any, 4);
-    t->habits.empty_rbf = random_of(r, often, 4);
-    t->habits.own_slave = random_of(r, often, 4);
-    t->habits.cut = random_of(r, often, 3);
+    t->habits.garble = random_pick(r, rare);
+    t->habits.no_idle = random_pick(r, rare);
+    t->habits.look = random_pick(r, often);
+    t->habits.request = random_pick(r, any);
+    t->habits.contend = random_pick(r, often);
+    t->habits.offer = random_pick(r, any);
+    t->habits.enable = random_pick(r, any);
+    t->habits.empty_rbf = random_pick(r, often);
+    t->habits.own_slave = random_pick(r, often);
+    t->habits.cut = random_pick(r, cuts);
     t->habits.read_request = 400;
     t->habits.spoil = t->habits.meddle = 40;
     draw_theme(&t->habits, random_below(r, 8));
@@ -116,7 +117,7 @@ void traffic_begin(struct traffic *t, uint64_t seed, uint32_t *words, uint32_t *
     /* Drawn once: a list that resets at all has no unit with a long life. */
     static const uint32_t resets[] = {0, 0, 30, 100, 300};
     *t = (struct traffic){.random = random_seeded(seed), .drive = DRIVE_RELEASED};
-    t->habits.reset = random_of(&t->random, resets, 5);
+    t->habits.reset = random_pick(&t->random, resets);
     draw_habits(t);
     model_reset(&t->unit);
     t->words = words;
