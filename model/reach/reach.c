@@ -18,7 +18,8 @@
 
 static const struct group *const groups[] = {
     &refusal_reasons, &refusal_places, &host_places, &codes, &code_steps, &status_values, &slave_controls,
-    &refused_controls, &slave_ends, &master_ends, &cut_slots, &losses, &locks, &attempts, &particulars
+    &refused_controls, &slave_ends, &master_ends, &cut_slots, &losses, &locks, &attempts, &particulars,
+    &invariants
 };
 #define GROUPS (sizeof groups / sizeof *groups)
 #define MAX_ITEMS 1024
@@ -31,7 +32,7 @@ static void observe_list(const uint32_t *words, size_t len)
     struct memory memory = {0};
     model_reset(&after);
     for (size_t i = 0; i < len; i++) {
-        before = after;
+        memcpy(&before, &after, sizeof before);
         uint32_t answer = model_step(&after, words[i]);
         struct moment m = {&before, &after, words[i], answer, &memory};
         memory_note(&m);
@@ -54,7 +55,8 @@ static bool report_group(size_t g, bool all)
         forbidden += !must && counts[g][i];
     }
     bool whole = reached == expected && forbidden == 0;
-    printf("%s %s: %zu of %zu reached\n", whole ? "reached" : "MISSED", group->name, reached, expected);
+    printf("%s %s: %zu of %zu reached, %zu of %zu forbidden ones seen\n", whole ? "reached" : "MISSED", group->name,
+           reached, expected, forbidden, group->size - expected);
     for (size_t i = 0; i < group->size; i++) {
         bool wrong = (group->expect(i) == MUST) != (counts[g][i] > 0);
         group->label(i, label);
