@@ -133,7 +133,7 @@ static void outside_frames(struct traffic *t)
         emit_slot(t, random_chance(r, 700) ? SLOT_IDLE : random_below(r, 2));
 }
 
-/* Words that are all well formed, with no bus in mind: starts, idles and levels as they fall. */
+/* Words with no bus in mind: starts, idles, levels and host words as they fall, and bits that are no word at all. */
 static void formless_words(struct traffic *t)
 {
     struct random *r = &t->random;
@@ -142,6 +142,8 @@ static void formless_words(struct traffic *t)
             host_word(t);
         else if (random_chance(r, 30))
             emit_slot(t, SLOT_START + random_below(r, 2));
+        else if (random_chance(r, 50))
+            emit(t, random_word(r));
         else
             emit_slot(t, random_below(r, 2) & (t->drive != DRIVE_0 || random_chance(r, 50)));
     }
