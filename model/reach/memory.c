@@ -1,0 +1,78 @@
+/* What the observer remembers between words: of the frame that goes on, and of the lock. */
+#include <string.h>
+
+#include "memory.h"
+
+static void note_host(const struct moment *m)
+{
+    const struct unit *b = m->before, *a = m->after;
+    struct memory *memory = m->memory;
+    bool in_frame = b->frame.field != WAITING;
+    if (in_frame && ((a->uar1 ^ b->uar1) & UAR1_MODE))
+        memory->mode_turned = true;
+    if (in_frame && own_address(a) != own_address(b))
+        memory->own_turned = true;
+    if (memory->wanted && a->tbf.count > b->tbf.count)
+        memory->refilled = true;
+    bool receives = slave_in_exchange(m) && !b->frame.sending && (b->frame.control & CONTROL_WRITES);
+    if (receives && is_write_of(m, WRITE_CMR, CMR_CLEAR_SLRE))
+        memory->slre_cleared = true;
+    if (receives && is_write_of(m, WRITE_CTR, CTR_SET_SLRE))
+        memory->slre_set = true;
+    if (memory->status_fixed && status_byte(a) != memory->status_fixed)
+        memory->status_turned = true;
+}
+
+static void note_level(const struct moment *m)
+{
+    const struct unit *b = m->before, *a = m->after;
+    const struct frame *f = &b->frame;
+    struct memory *memory = m->memory;
+    if (f->master && !a->frame.master && a->frame.field != WAITING)
+        memory->lost_slot = f->field == FIELD_BROADCAST ? FIRST_CONTEST_SLOT : FIRST_CONTEST_SLOT + 1u + f->count;
+    if ((a->marc == CODE_WANTED && a->frame.master) || (a->slrc == CODE_WANTED && a->frame.begun && a->frame.sending))
+        memory->wanted = true;
+    if (memory->wanted && at_acknowledge(m, FIELD_DATA) && a->frame.field == FIELD_DATA && b->tbf.count == 0
+        && a->frame.acked == f->acked)
+        memory->repeated_empty = true;
+    if (at_acknowledge(m, FIELD_LENGTH) && a->frame.field == FIELD_DATA && a->frame.sending && !a->frame.begun
+        && !a->frame.master)
+        memory->status_fixed = status_byte(a);
+    if (unit_drive(b) == DRIVE_START)
+        memory->level_at_start = true;
+}
+
+void memory_note(const struct moment *m)
+{
+    if (is_slot(m, SLOT_START))
+        m->memory->life++;
+    if (is_write_of(m, WRITE_CTR, CTR_RESET))
+        m->memory->life = 0;
+    if (is_host(m))
+        note_host(m);
+    else if (is_level(m))
+        note_level(m);
+    if (m->before->locked && m->after->locked && slave_in_exchange(m) && way_of(m) != NO_WAY
+        && m->before->frame.length_acked && m->before->frame.master_address == m->before->holder)
+        m->memory->continued++;
+    if (m->before->locked && at_parity(m, FIELD_MASTER) && m->after->frame.master_address != m->before->holder)
+        m->memory->stranger_since = true;
+}
+
+void memory_forget(const struct moment *m)
+{
+    struct memory kept = *m->memory;
+    bool ended = m->before->frame.field != WAITING && m->after->frame.field == WAITING;
+    if (ended || is_slot(m, SLOT_START)) {
+        memset(m->memory, 0, sizeof *m->memory);
+        m->memory->continued = kept.continued;
+        m->memory->stranger_since = kept.stranger_since;
+        m->memory->life = kept.life;
+    }
+    if (is_slot(m, SLOT_IDLE))
+        m->memory->level_at_start = false;
+    if (!m->after->locked) {
+        m->memory->continued = 0;
+        m->memory->stranger_since = false;
+    }
+}

@@ -1,0 +1,70 @@
+/* Reading one word's effect from the states around it. */
+#include "moment.h"
+
+const char *const way_names[WAYS] = {
+    "all bytes ACKed", "last attempt", "TBF run empty", "NAK after the slave address", "NAK after the control",
+    "NAK after the length", "bad parity of the length", "bad parity of a byte",
+    "0 read for 1 in P of the address", "0 read for 1 in the slave address", "0 read for 1 in the control",
+    "0 read for 1 in the length", "0 read for 1 in a byte",
+    "idle in the broadcast bit", "idle in the master address", "idle in the slave address", "idle in the control",
+    "idle in the length", "idle in a byte",
+    "start in the broadcast bit", "start in the master address", "start in the slave address",
+    "start in the control", "start in the length", "start in a byte"
+};
+
+unsigned field_bits_with_parity(unsigned field)
+{
+    switch (field) {
+    case FIELD_BROADCAST: return 1;
+    case FIELD_MASTER: case FIELD_SLAVE: return ADDRESS_BITS + 1;
+    case FIELD_CONTROL: return CONTROL_BITS + 1;
+    default: return BYTE_BITS + 1;
+    }
+}
+
+bool at_parity(const struct moment *m, unsigned field)
+{
+    const struct frame *f = &m->before->frame;
+    return is_level(m) && f->field == field && f->count + 1u == field_bits_with_parity(field);
+}
+
+bool at_acknowledge(const struct moment *m, unsigned field)
+{
+    const struct frame *f = &m->before->frame;
+    return is_level(m) && f->field == field && f->count == field_bits_with_parity(field);
+}
+
+static enum way way_at_acknowledge(const struct moment *m)
+{
+    const struct frame *a = &m->after->frame;
+    if (m->before->frame.field != FIELD_DATA)
+        return WAY_NAK_SLAVE + (m->before->frame.field - FIELD_SLAVE);
+    if (a->acked == a->length)
+        return WAY_NORMAL;
+    return a->attempts == a->limit ? WAY_LAST_ATTEMPT : WAY_RAN_EMPTY;
+}
+
+enum way way_of(const struct moment *m)
+{
+    const struct frame *b = &m->before->frame;
+    if (!taken(m) || m->word >> KIND_SHIFT != KIND_SLOT || b->field == WAITING)
+        return NO_WAY;
+    if (m->word == SLOT_IDLE)
+        return WAY_IDLE_BROADCAST + (b->field - FIELD_BROADCAST);
+    if (m->word == SLOT_START)
+        return WAY_START_BROADCAST + (b->field - FIELD_BROADCAST);
+    if (m->after->frame.field != WAITING)
+        return NO_WAY;
+    if (b->count == field_bits_with_parity(b->field))
+        return way_at_acknowledge(m);
+    if (b->master)
+        return WAY_READ_0_MASTER + (b->field - FIELD_MASTER);
+    return b->field == FIELD_LENGTH ? WAY_BAD_PARITY_LENGTH : b->field == FIELD_DATA ? WAY_BAD_PARITY_DATA : NO_WAY;
+}
+
+bool slave_in_exchange(const struct moment *m)
+{
+    const struct frame *b = &m->before->frame;
+    return !b->master && (b->field > FIELD_CONTROL
+                          || (b->field == FIELD_CONTROL && b->count == CONTROL_BITS + 1 && b->ack));
+}

@@ -1,0 +1,81 @@
+/* One word to the unit, seen from outside: the state before and after it, and what an observer remembers. */
+#ifndef REACH_MOMENT_H
+#define REACH_MOMENT_H
+
+#include "../unit.h"
+
+struct memory {
+    unsigned lost_slot;          /* slot of the frame in which the unit lost its contest, 0 for none */
+    bool mode_turned;            /* UAR1 was written with the other mode inside the frame */
+    bool wanted;                 /* code 1 came in the frame */
+    bool refilled;               /* TBF was written after that */
+    bool repeated_empty;         /* and a byte was repeated with TBF empty */
+    bool slre_cleared, slre_set; /* by the host, after the control of a write was accepted */
+    bool own_turned;             /* the own address was written inside the frame */
+    uint8_t status_fixed;        /* the status byte as it goes out, 0 for none */
+    bool status_turned;          /* the status has changed since */
+    bool level_at_start;         /* a level met a unit that drove start */
+    unsigned continued;          /* frames with which the holder continued the lock */
+    bool stranger_since;         /* a stranger's frame came since the lock was taken */
+    unsigned life;               /* frames since the unit was reset */
+};
+
+struct moment {
+    const struct unit *before, *after;
+    uint32_t word, answer;
+    struct memory *memory;
+};
+
+static inline bool taken(const struct moment *m)
+{
+    return m->answer >> KIND_SHIFT != KIND_REFUSED;
+}
+
+static inline bool is_slot(const struct moment *m, unsigned slot)
+{
+    return taken(m) && m->word == slot;
+}
+
+static inline bool is_level(const struct moment *m)
+{
+    return is_slot(m, SLOT_LEVEL_0) || is_slot(m, SLOT_LEVEL_1);
+}
+
+static inline bool is_host(const struct moment *m)
+{
+    return taken(m) && m->word >> KIND_SHIFT != KIND_SLOT;
+}
+
+static inline bool is_write(const struct moment *m, unsigned reg)
+{
+    return taken(m) && m->word >> REGISTER_SHIFT == ((unsigned)KIND_WRITE << 4 | reg);
+}
+
+static inline bool is_write_of(const struct moment *m, unsigned reg, unsigned value)
+{
+    return is_write(m, reg) && (m->word & VALUE_MASK) == value;
+}
+
+/* Bits of a field with its P, by "Slots in order". */
+unsigned field_bits_with_parity(unsigned field);
+
+/* The word is the level of the field's P, or of its A. */
+bool at_parity(const struct moment *m, unsigned field);
+bool at_acknowledge(const struct moment *m, unsigned field);
+
+/* How the frame ended for the unit with this word. */
+enum way {
+    WAY_NORMAL, WAY_LAST_ATTEMPT, WAY_RAN_EMPTY, WAY_NAK_SLAVE, WAY_NAK_CONTROL, WAY_NAK_LENGTH,
+    WAY_BAD_PARITY_LENGTH, WAY_BAD_PARITY_DATA,
+    WAY_READ_0_MASTER, WAY_READ_0_SLAVE, WAY_READ_0_CONTROL, WAY_READ_0_LENGTH, WAY_READ_0_DATA,
+    WAY_IDLE_BROADCAST, WAY_IDLE_MASTER, WAY_IDLE_SLAVE, WAY_IDLE_CONTROL, WAY_IDLE_LENGTH, WAY_IDLE_DATA,
+    WAY_START_BROADCAST, WAY_START_MASTER, WAY_START_SLAVE, WAY_START_CONTROL, WAY_START_LENGTH, WAY_START_DATA,
+    WAYS, NO_WAY
+};
+extern const char *const way_names[WAYS];
+enum way way_of(const struct moment *m);
+
+/* As slave, the control has been accepted and the frame has not ended before this word. */
+bool slave_in_exchange(const struct moment *m);
+
+#endif
