@@ -10,13 +10,16 @@ use Rattle.line.specs.Cases.{Case, _gives_, allGiven, lineCases}
 use Rattle.line.specs.Contest.{numberOf, settled, remaining, lossOf, lossesOf, firstPlace}
 use Rattle.line.specs.Parity.{levelsOf, parityOf, parityHolds}
 use Rattle.line.specs.Parity
-use Rattle.frame.specs.Frame.{begunOf, doneOf, lengthOf, limitOf, nextOf, shiftOf, shiftedOf, toField, withLength}
+use Rattle.frame.specs.Frame.{begunOf, doneOf, lengthOf, limitOf, nextOf, shiftOf, shiftedOf, toField}
+use Rattle.frame.specs.Frame.{withLength}
 use Rattle.frame.specs.Slaves.{acceptedOf, addressedOf, byValue, controlOf, openTo, strangerOf, writesOf}
 use Rattle.frame.specs.Drive.{answerOf, driveIn, driveOf, sentOf}
 use Rattle.frame.specs.Masters.{clashOf, contestedOf, lostOf, ownBit}
-use Rattle.frame.specs.Step.{ackedOf, afterAck, againOf, atBroadcast, atControl, atData, atField, atLength, atMaster}
+use Rattle.frame.specs.Step.{ackedOf, afterAck, againOf, atBroadcast, atControl, atData, atField, atLength}
+use Rattle.frame.specs.Step.{atMaster}
 use Rattle.frame.specs.Step.{atSlave, controlJudged, countedOf, dataAcked, dataJudged, endsOf, goOn, headerAck}
-use Rattle.frame.specs.Step.{heardOf, inField, lastOf, lengthJudged, levelOf, masterOf, overruledOf, slaveJudged}
+use Rattle.frame.specs.Step.{heardOf, inField, lastOf, lengthJudged, levelOf, masterOf, overruledOf}
+use Rattle.frame.specs.Step.{slaveJudged}
 use Rattle.frame.specs.Step.{textAck, wholeOf, withAck, withControl, withSlave}
 use Rattle.frame.specs.declared.place.Frame.{Frame}
 use Rattle.frame.specs.declared.place.Place.{Place}
@@ -34,7 +37,8 @@ attemptsOf (suc n) = (field 8 0x35 ++ 0 ∷ []) ++ attemptsOf n
 
 abbrev pub frameOf : ℕ → ℕ → List ℕ
 frameOf length n =
-    1 ∷ field 12 0x525 ++ (field 12 0x123 ++ 0 ∷ []) ++ (field 4 0xF ++ 0 ∷ []) ++ (field 8 length ++ 0 ∷ []) ++ attemptsOf n
+    1 ∷ field 12 0x525 ++ (field 12 0x123 ++ 0 ∷ []) ++ (field 4 0xF ++ 0 ∷ []) ++
+    (field 8 length ++ 0 ∷ []) ++ attemptsOf n
 
 -- a unit with the address 123H that can receive
 abbrev pub receiver : View
@@ -71,9 +75,13 @@ frameCases =
 -- every marked case so far
 pub frame-cases : allGiven (lineCases ++ frameCases) ≡ true
 unfolding allGiven lineCases frameCases parityOf ones onesIn lossesOf lossOf settled remaining numberOf firstPlace
-    levelsOf Parity.levelOf parityHolds lengthOf slotsTaken begunOf limitOf doneOf nextOf shiftOf shiftedOf toField withLength
-    acceptedOf addressedOf byValue controlOf openTo strangerOf writesOf answerOf driveIn driveOf sentOf clashOf contestedOf
-    lostOf ownBit ackedOf afterAck againOf atBroadcast atControl atData atField atLength atMaster atSlave controlJudged
-    countedOf dataAcked dataJudged endsOf goOn headerAck heardOf inField lastOf lengthJudged levelOf masterOf overruledOf
+    levelsOf Parity.levelOf parityHolds lengthOf slotsTaken begunOf limitOf doneOf nextOf shiftOf shiftedOf toField
+    withLength
+    acceptedOf addressedOf byValue controlOf openTo strangerOf writesOf answerOf driveIn driveOf sentOf clashOf
+    contestedOf
+    lostOf ownBit ackedOf afterAck againOf atBroadcast atControl atData atField atLength atMaster atSlave
+    controlJudged
+    countedOf dataAcked dataJudged endsOf goOn headerAck heardOf inField lastOf lengthJudged levelOf masterOf
+    overruledOf
     slaveJudged textAck wholeOf withAck withControl withSlave
 frame-cases = refl

@@ -1,0 +1,6 @@
+pub mod Set
+pub mod State
+pub mod Endings
+pub mod Slots
+pub mod Registers
+pub mod Step
