@@ -1,0 +1,5 @@
+pub mod Answers
+pub mod Calm
+pub mod Strangers
+pub mod Protects
+pub mod Locks
