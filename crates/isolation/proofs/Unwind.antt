@@ -2,7 +2,7 @@
 -- protects the holder of its lock. The run on a list is compared, word by word, with the run on its kept words alone;
 -- two lists whose kept words are the same are then alike, since both are like one and the same run.
 use mathlib.Core.Bool.{Bool, true, false, false≢true}
-use mathlib.Core.Path.{_≡_, refl, sym, ap, ap₂, _∙_, subst}
+use mathlib.Core.Path.{_≡_, refl, sym, ap, _∙_, subst}
 use mathlib.Core.List.{List, [], _∷_, map}
 use Prim.Native.Nat.{ℕ, zero, suc, _≤_}
 use native.Mathlib.Omega.{arith}
@@ -15,7 +15,7 @@ use Rattle.line.specs.Slot.{Class, slot, host, classOf}
 use Rattle.line.specs.declared.slot.Slot.the-variants.{Level, Start, Idle, Stray}
 use Rattle.isolation.specs.Words.{levels, framed, marks, spaced, marked, count, keeps, kept}
 use Rattle.isolation.specs.Runs.{Machine, shown, latest, driven, Behind, Places}
-use Rattle.isolation.specs.Runs.{run, answers, Compared, Given, Alike, Protected}
+use Rattle.isolation.specs.Runs.{run, answers, Compared, Given, Protected}
 use Rattle.isolation.proofs.Unwinding.{Unwinding}
 
 -- ---- lists
