@@ -1,13 +1,16 @@
 -- What follows for a machine that protects the holder of its lock: a word that is struck changes nothing that is seen,
--- and the lock, where it is among what is seen, ends at like places of both lists.
+-- and the lock, where what is seen tells whom it names, goes on as long in both lists and ends at like places.
 use mathlib.Core.Bool.{Bool, true, false, false≢true}
+use mathlib.Core.Logic.{_⊎_, inl, inr}
 use mathlib.Core.Path.{_≡_, refl, sym, ap, _∙_}
 use mathlib.Core.List.{List, [], _∷_, map}
-use Prim.Native.Nat.{ℕ, zero, suc}
+use Prim.Native.Nat.{ℕ, zero, suc, _≤_, _<_}
+use native.Mathlib.Nat.{eq-or-lt-of-le}
+use native.Mathlib.Omega.{arith}
 use lib.ListN.{take, getD}
 use Rattle.line.specs.Slot.{classOf}
 use Rattle.isolation.specs.Words.{spaced, count, keeps}
-use Rattle.isolation.specs.Runs.{Machine, Places, run, Compared, Given, Protected}
+use Rattle.isolation.specs.Runs.{Machine, Behind, Places, run, Compared, Given, Protected}
 use Rattle.isolation.proofs.Unwind.{shorter}
 
 -- ---- counting
@@ -31,6 +34,34 @@ count-set (false ∷ ms) zero e = absurd (false≢true e)
 count-set (true ∷ ms) (suc i) e = ap suc (count-set ms i e)
 count-set (false ∷ ms) (suc i) e = count-set ms i e
 
+-- fewer marks count no more
+count-fewer : (ms : List Bool) (k i : ℕ) → k ≤ i → count (take k ms) ≤ count (take i ms)
+unfolding count
+count-fewer ms zero i l = omega arith
+count-fewer ms (suc k) zero l = absurd (omega arith)
+count-fewer [] (suc k) (suc i) l = omega arith
+count-fewer (true ∷ ms) (suc k) (suc i) l = omega (arith, count-fewer ms k i (omega arith))
+count-fewer (false ∷ ms) (suc k) (suc i) l = count-fewer ms k i (omega arith)
+
+-- a place up to i where n are counted
+record Counted (ms : List Bool) (i n : ℕ) : Type 0 where
+  place : ℕ
+  no-later : place ≤ i
+  counts : count (take place ms) ≡ n
+
+-- every number up to the count at i is counted at such a place
+counted : (ms : List Bool) (i n : ℕ) → n ≤ count (take i ms) → Counted ms i n
+unfolding count
+counted ms zero n l = record { place = 0; no-later = omega arith; counts = omega arith }
+counted [] (suc i) n l = record { place = 0; no-later = omega arith; counts = omega arith }
+counted (true ∷ ms) (suc i) zero l = record { place = 0; no-later = omega arith; counts = refl }
+counted (true ∷ ms) (suc i) (suc n) l =
+    let x = counted ms i n (omega arith) in
+    record { place = suc (x .place); no-later = omega arith; counts = ap suc (x .counts) }
+counted (false ∷ ms) (suc i) n l =
+    let x = counted ms i n l in
+    record { place = suc (x .place); no-later = omega arith; counts = x .counts }
+
 -- ---- what is seen
 
 module _ (M : Machine) (protects : Protected M) (h : ℕ) (s : M .State) where
@@ -41,18 +72,47 @@ module _ (M : Machine) (protects : Protected M) (h : ℕ) (s : M .State) where
   unfolding Protected
   struck-unseen A v g i c e =
       let given : Given M h s A A = record { waits = v; spaced-first = g; spaced-second = g; same = refl } in
-      protects h s A A given .states i (suc i) (count-unset (keeps h A) i e) (shorter M h s A i c) c
+      let c′ = shorter M h s A (suc i) i (omega arith) c in
+      protects h s A A given .states i (suc i) (count-unset (keeps h A) i e) c′ c
 
-  module _ (A B : List ℕ) (given : Given M h s A B) (i j : ℕ) (x : Places h A B i j)
-      (a : Compared M h s A (suc i)) (b : Compared M h s B (suc j)) where
-    -- after the two words at like places the states are seen alike, also if the lock ends with them
-    pub after-alike : M .seen (run M s (take (suc i) A)) ≡ M .seen (run M s (take (suc j) B))
+  module _ (A B : List ℕ) (given : Given M h s A B) (i j : ℕ) (a : Compared M h s A (suc i)) where
+    -- after the words at like places the states are seen alike, also if the lock ends with them
+    pub after-alike : Places h A B i j → Compared M h s B (suc j)
+        → M .seen (run M s (take (suc i) A)) ≡ M .seen (run M s (take (suc j) B))
     unfolding Protected
-    after-alike =
+    after-alike x b =
         let n = count-set (keeps h A) i (x .first) ∙ ap suc (x .behind) ∙ sym (count-set (keeps h B) j (x .second)) in
         protects h s A B given .states (suc i) (suc j) n a b
 
-    -- so the two locks end at like places, where what is seen tells whom the lock names
-    pub ends-alike : ((t u : M .State) → M .seen t ≡ M .seen u → M .lockedTo h t → M .lockedTo h u)
-        → M .lockedTo h (run M s (take (suc i) A)) → M .lockedTo h (run M s (take (suc j) B))
-    ends-alike tells l = tells (run M s (take (suc i) A)) (run M s (take (suc j) B)) after-alike l
+    module _ (tells : (t u : M .State) → M .seen t ≡ M .seen u → M .lockedTo h t → M .lockedTo h u) where
+      -- if the lock does not end with the one, it does not end with the other
+      pub ends-alike : Places h A B i j → Compared M h s B (suc j) → M .lockedTo h (run M s (take (suc i) A))
+          → M .lockedTo h (run M s (take (suc j) B))
+      ends-alike x b l = tells (run M s (take (suc i) A)) (run M s (take (suc j) B)) (after-alike x b) l
+
+      module _ (n : Behind h A B i j) (u : (k : ℕ) → k ≤ suc j → M .requesting (run M s (take k B)) ≡ false) where
+        -- behind no more kept words than lie behind i words of the first list, the second is locked too
+        locked-too : (k : ℕ) → k ≤ j → ((l : ℕ) → l < k → M .lockedTo h (run M s (take l B)))
+            → M .lockedTo h (run M s (take k B))
+        unfolding Protected
+        locked-too k g before =
+            let f = count-fewer (keeps h B) k j g in
+            let x = counted (keeps h A) i (count (take k (keeps h B))) (omega arith) in
+            let c = shorter M h s A (suc i) (x .place) (omega arith) a in
+            let d : Compared M h s B k = record { held = before; unasked = λ l m. u l (omega arith) } in
+            let e = protects h s A B given .states (x .place) k (x .counts) c d in
+            tells (run M s (take (x .place) A)) (run M s (take k B)) e (a .held (x .place) (omega arith))
+
+        -- so it is before each of the words up to there
+        one-more : (k : ℕ) → k ≤ j → ((l : ℕ) → l < k → M .lockedTo h (run M s (take l B))) → (l : ℕ)
+            → (suc l ≡ suc k) ⊎ (suc l < suc k) → M .lockedTo h (run M s (take l B))
+        one-more k g before l (inl e) = let e′ : k ≡ l = omega arith in rw e′ at (locked-too k g before)
+        one-more k g before l (inr m) = before l (omega arith)
+
+        held-too : (k : ℕ) → k ≤ suc j → (l : ℕ) → l < k → M .lockedTo h (run M s (take l B))
+        held-too zero g l m = absurd (omega arith)
+        held-too (suc k) g l m = one-more k (omega arith) (held-too k (omega arith)) l (eq-or-lt-of-le m)
+
+        -- the comparison goes as far in the second list as in the first, unless a master request comes
+        pub as-far : Compared M h s B (suc j)
+        as-far = record { held = held-too (suc j) (omega arith); unasked = u }

@@ -2,9 +2,9 @@
 -- protects the holder of its lock. The run on a list is compared, word by word, with the run on its kept words alone;
 -- two lists whose kept words are the same are then alike, since both are like one and the same run.
 use mathlib.Core.Bool.{Bool, true, false, false≢true}
-use mathlib.Core.Path.{_≡_, refl, sym, ap, ap₂, _∙_, subst}
+use mathlib.Core.Path.{_≡_, refl, sym, ap, _∙_, subst}
 use mathlib.Core.List.{List, [], _∷_, map}
-use Prim.Native.Nat.{ℕ, zero, suc}
+use Prim.Native.Nat.{ℕ, zero, suc, _≤_}
 use native.Mathlib.Omega.{arith}
 use native.Mathlib.Nat.{add-zero}
 use lib.ListN.{take, drop, getD}
@@ -15,7 +15,7 @@ use Rattle.line.specs.Slot.{Class, slot, host, classOf}
 use Rattle.line.specs.declared.slot.Slot.the-variants.{Level, Start, Idle, Stray}
 use Rattle.isolation.specs.Words.{levels, framed, marks, spaced, marked, count, keeps, kept}
 use Rattle.isolation.specs.Runs.{Machine, shown, latest, driven, Behind, Places}
-use Rattle.isolation.specs.Runs.{run, answers, Compared, Given, Alike, Protected}
+use Rattle.isolation.specs.Runs.{run, answers, Compared, Given, Protected}
 use Rattle.isolation.proofs.Unwinding.{Unwinding}
 
 -- ---- lists
@@ -75,13 +75,13 @@ module _ (M : Machine) where
   abbrev keptTo : ℕ → M .State → List ℕ → ℕ → Point
   keptTo h s A n = goes (begins s) (take n (kept h A))
 
-  -- its state is that of the run
+  -- the state at the point that a list leads to is that of the run
   goes-state : (p : Point) (ws : List ℕ) → goes p ws .state ≡ run M (p .state) ws
   unfolding goes run
   goes-state p [] = refl
   goes-state p (w ∷ ws) = goes-state (after p w) ws
 
-  -- what it drives is told by the answers
+  -- what is driven there is told by the answers
   goes-drive : (p : Point) (ws : List ℕ) (i : ℕ)
       → driven (p .drive) (take i (answers M (p .state) ws)) ≡ goes p (take i ws) .drive
   unfolding goes driven answers
@@ -115,10 +115,10 @@ module _ (M : Machine) where
   onward h s w ws i c =
       record { held = λ k l. c .held (suc k) (omega arith); unasked = λ k l. c .unasked (suc k) (omega arith) }
 
-  -- a comparison that goes so far goes one word less far
-  pub shorter : (h : ℕ) (s : M .State) (A : List ℕ) (i : ℕ) → Compared M h s A (suc i) → Compared M h s A i
-  shorter h s A i c =
-      record { held = λ k l. c .held k (omega arith); unasked = λ k l. c .unasked k (omega arith) }
+  -- a comparison that goes so far goes less far too
+  pub shorter : (h : ℕ) (s : M .State) (A : List ℕ) (i k : ℕ) → k ≤ i → Compared M h s A i → Compared M h s A k
+  shorter h s A i k g c =
+      record { held = λ j l. c .held j (omega arith); unasked = λ j l. c .unasked j (omega arith) }
 
 module _ (M : Machine) (h : ℕ) (U : Unwinding M h) where
   -- ---- a list against its kept words
@@ -362,7 +362,7 @@ module _ (M : Machine) (h : ℕ) (U : Unwinding M h) where
         (keptTo M h s A (count (take i (keeps h A))))
     unfolding kept
     list-told c k =
-        let z = spot (shorter M h s A i c) in
+        let z = spot (shorter M h s A (suc i) i (omega arith) c) in
         let e = goes-state M (begins M s) (take i A) in
         let n = ap (M .requesting) e ∙ c .unasked i (omega arith) in
         let k′ = first-behind i (keeps h A) false ∙ k in
