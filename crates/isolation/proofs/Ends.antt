@@ -1,4 +1,5 @@
--- What follows for a machine that protects the holder of its lock: a word that is struck changes nothing that is seen,
+-- What follows for a machine that protects the holder of its lock: a word that is struck changes nothing that is
+-- seen,
 -- and the lock, where what is seen tells whom it names, goes on as long in both lists and ends at like places.
 use mathlib.Core.Bool.{Bool, true, false, false≢true}
 use mathlib.Core.Logic.{_⊎_, inl, inr}

@@ -12,25 +12,25 @@ use Rattle.unit.specs.declared.answer.Reply.the-variants.{Taken, Written
 pub latest-taken : (d x : ℕ) → latest d (wordOf (Given (Taken x))) ≡ x % 4
 unfolding latest wordOf
 latest-taken d x =
-    let e : kindOf (8 * 0x1000_0000 + x % 4 * 256) ≡ 8 = omega arith in
+    let e : kindOf (wordOf (Given (Taken x))) ≡ 8 = omega arith in
     rw e (omega arith)
 
 pub latest-written : (d x : ℕ) → latest d (wordOf (Given (Written x))) ≡ x % 4
 unfolding latest wordOf
 latest-written d x =
-    let e : kindOf (9 * 0x1000_0000 + x % 4 * 256) ≡ 9 = omega arith in
+    let e : kindOf (wordOf (Given (Written x))) ≡ 9 = omega arith in
     rw e (omega arith)
 
 pub latest-read : (d v x : ℕ) → latest d (wordOf (Given (Read v x))) ≡ x % 4
 unfolding latest wordOf
 latest-read d v x =
-    let e : kindOf (10 * 0x1000_0000 + x % 4 * 256 + v % 256) ≡ 10 = omega arith in
+    let e : kindOf (wordOf (Given (Read v x))) ≡ 10 = omega arith in
     rw e (omega arith)
 
 pub latest-refused : (d n : ℕ) → latest d (wordOf (Refused n)) ≡ d
 unfolding latest wordOf
 latest-refused d n =
-    let e : kindOf (15 * 0x1000_0000 + n % 256) ≡ 15 = omega arith in
+    let e : kindOf (wordOf (Refused n)) ≡ 15 = omega arith in
     rw e
 
 pub shown-written : (x y : ℕ) → shown host (wordOf (Given (Written x))) ≡ shown host (wordOf (Given (Written y)))

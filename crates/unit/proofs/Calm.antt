@@ -11,6 +11,7 @@ use lib.ListN.{drop}
 use lib.Pow.{pow-mono}
 use Rattle.line.specs.Choice.{pick, bitOf, _▹_}
 use Rattle.line.proofs.Either.{either}
+use Rattle.frame.specs.Set.{frame·control}
 use Rattle.frame.specs.Slaves.{writesOf, openTo}
 use Rattle.frame.specs.declared.place.Field.{Field}
 use Rattle.frame.specs.declared.place.Field.the-variants.{Broadcast, Master, Slave, Control, Length, Data}
@@ -19,12 +20,15 @@ use Rattle.frame.specs.declared.place.Place.{Place}
 use Rattle.frame.specs.declared.place.Place.the-variants.{Waiting, In}
 use Rattle.isolation.specs.Words.{spells}
 use Rattle.unit.specs.Endings.{acted, draws, ties, lockAfter, partEnded, dataEnded, lengthEnded, endedOf}
-use Rattle.unit.specs.Endings.{requestEnded, slaveEnded, cutOf, cutAt}
+use Rattle.unit.specs.Endings.{requestEnded, slaveEnded}
+use Rattle.unit.specs.Set.{core·regs}
 use Rattle.unit.specs.declared.state.Act.the-variants.{Nothing}
 use Rattle.unit.specs.declared.state.Core.{Core}
+use Rattle.unit.specs.declared.state.Registers.{Registers}
 
 -- either way of a choice
-pub pick-ind : {A : Type 0} (P : A → Type 0) (b : Bool) (x y : A) → (b ≡ true → P x) → (b ≡ false → P y) → P (pick b x y)
+pub pick-ind : {A : Type 0} (P : A → Type 0) (b : Bool) (x y : A) → (b ≡ true → P x) → (b ≡ false → P y)
+    → P (pick b x y)
 pick-ind P true x y f g = f refl
 pick-ind P false x y f g = g refl
 
@@ -70,7 +74,8 @@ open-is control e =
 module _ (P : ℕ → Type 0) (at-0 : P 0) (at-4 : P 4) (at-5 : P 5) where
   open-each : (control : ℕ) → openTo control ≡ true → P control
   open-each control e =
-      ⊎-elim (λ z. subst P (sym z) at-0) (λ y. ⊎-elim (λ z. subst P (sym z) at-4) (λ z. subst P (sym z) at-5) y) (open-is control e)
+      ⊎-elim (λ z. subst P (sym z) at-0) (λ y. ⊎-elim (λ z. subst P (sym z) at-4) (λ z. subst P (sym z) at-5) y)
+      (open-is control e)
 
 pub open-reads : (control : ℕ) → openTo control ≡ true → writesOf control ≡ false
 unfolding writesOf
@@ -79,20 +84,27 @@ open-reads = open-each (λ (k : ℕ). writesOf k ≡ false) refl refl refl
 pub harmless-draws : {f : Frame} → Harmless f → draws f ≡ false
 unfolding draws
 harmless-draws {f} s =
-    rw (s .sends, s .follows) (open-each (λ (k : ℕ). (eqb k 3 || eqb k 7) ≡ false) refl refl refl (f .control) (s .open-control))
+    open-each (λ (k : ℕ). draws (frame·control k f) ≡ false) (rw (s .sends, s .follows)) (rw (s .sends, s .follows))
+    (rw (s .sends, s .follows)) (f .control) (s .open-control)
+
+never : (b : Bool) → (b && false) ≡ false
+never true = refl
+never false = refl
 
 pub harmless-ties : {f : Frame} → Harmless f → ties f ≡ false
 unfolding ties
 harmless-ties {f} s =
-    open-each (λ (k : ℕ). (not (f .broadcast) && (eqb k 3 || eqb k 10 || eqb k 11)) ≡ false)
-    (nothing (f .broadcast)) (nothing (f .broadcast)) (nothing (f .broadcast)) (f .control) (s .open-control)
-  where
-    nothing : (b : Bool) → (not b && false) ≡ false
-    nothing true = refl
-    nothing false = refl
+    open-each (λ (k : ℕ). ties (frame·control k f) ≡ false) (never (not (f .broadcast))) (never (not (f .broadcast)))
+    (never (not (f .broadcast))) (f .control) (s .open-control)
 
-harmless-not-6 : {f : Frame} → Harmless f → eqb (f .control) 6 ≡ false
-harmless-not-6 {f} s = open-each (λ (k : ℕ). eqb k 6 ≡ false) refl refl refl (f .control) (s .open-control)
+-- it moves no lock
+harmless-lock : {f : Frame} → Harmless f → (whole : Bool) (r : Registers) → lockAfter f whole r ≡ r
+unfolding lockAfter ties
+harmless-lock {f} s whole r =
+    open-each (λ (k : ℕ). lockAfter (frame·control k f) whole r ≡ r)
+    (pick-no (ties (frame·control 0 f)) _ _ (never (not (f .broadcast))))
+    (pick-no (ties (frame·control 4 f)) _ _ (never (not (f .broadcast))))
+    (pick-no (ties (frame·control 5 f)) _ _ (never (not (f .broadcast)))) (f .control) (s .open-control)
 
 -- ---- the end of a stranger's frame leaves no trace
 
@@ -102,8 +114,10 @@ module _ (c : Core) (s : Harmless (c .frame)) where
   length-ended = rw (harmless-draws s)
 
   data-ended : (whole : Bool) → dataEnded c whole ≡ acted Nothing c
-  unfolding dataEnded lockAfter partEnded
-  data-ended whole = rw (harmless-ties s, harmless-not-6 s, harmless-draws s, s .sends)
+  unfolding dataEnded partEnded
+  data-ended whole =
+      ap (λ (r : Registers). partEnded (core·regs r c) whole) (harmless-lock s whole (c .regs))
+      ∙ pick-no (draws (c .frame)) _ _ (harmless-draws s) ∙ pick-yes (c .frame .sends) _ _ (s .sends)
 
 -- how a part ends rests on the lead and on the place
 ended-at : (c : Core) (p : Place) (whole : Bool) → c .frame .leads ≡ false → c .frame .spot .place ≡ p

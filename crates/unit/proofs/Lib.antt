@@ -3,3 +3,4 @@ pub mod Calm
 pub mod Strangers
 pub mod Protects
 pub mod Locks
+pub mod Example

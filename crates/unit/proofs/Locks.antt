@@ -21,7 +21,8 @@ use Rattle.frame.specs.Set.{frame·byte}
 use Rattle.frame.specs.Step as step
 use Rattle.frame.specs.Step.{moved}
 use Rattle.frame.specs.declared.place.Event.{Event}
-use Rattle.frame.specs.declared.place.Event.the-variants.{Nothing as Quiet, Lost, Addressed, ControlAcked, LengthAcked}
+use Rattle.frame.specs.declared.place.Event.the-variants.{Nothing as Quiet, Lost, Addressed, ControlAcked}
+use Rattle.frame.specs.declared.place.Event.the-variants.{LengthAcked}
 use Rattle.frame.specs.declared.place.Event.the-variants.{ByteAcked, AllAcked, ShortAcked, Aborted}
 use Rattle.frame.specs.declared.place.Field.{Field}
 use Rattle.frame.specs.declared.place.Field.the-variants.{Broadcast, Master, Slave, Control, Length, Data}
@@ -36,7 +37,8 @@ use Rattle.unit.specs.Set.{core·frame, core·idle, core·regs}
 use Rattle.unit.specs.State.{State, isEmpty, seenOf, viewOf}
 use Rattle.unit.specs.Endings.{acted, cutAt, cutOf, dataEnded, draws, endedOf, leftOf, lengthEnded, lockAfter}
 use Rattle.unit.specs.Endings.{partEnded, receptionEnded, requestEnded, sendingEnded, slaveEnded, ties}
-use Rattle.unit.specs.Slots.{byteDrawn, counted, lastAcked, lengthDrawn, nextDrawn, onAddressed, onByteAcked}
+use Rattle.unit.specs.Slots.{begun, byteDrawn, counted, lastAcked, lengthDrawn, nextDrawn, onAddressed}
+use Rattle.unit.specs.Slots.{onByteAcked}
 use Rattle.unit.specs.Slots.{onControlAcked, onEvent, onIdle, onLengthAcked, onLevel, onLost, onMoved, onStart}
 use Rattle.unit.specs.Slots.{receptionBegun, sendingBegun, wanted, withByte, withCode, withCount}
 use Rattle.unit.specs.Step.{actedOn, clashes, slotOn, stepAs, stepOf, toldOn}
@@ -87,12 +89,14 @@ module _ (h : ℕ) (c : Core) (o : c .regs .holder ≡ h) where
   unfolding lengthEnded sendingEnded
   length-fast = pick-ind (λ (a : Acted). Fast h (a .core .regs)) (draws (c .frame)) _ _ (λ t l. o) (λ t l. o)
 
-  lock-fast : (whole : Bool) → c .frame .leads ≡ false → Bound h (c .frame) → Fast h (lockAfter (c .frame) whole (c .regs))
+  lock-fast : (whole : Bool) → c .frame .leads ≡ false → Bound h (c .frame)
+      → Fast h (lockAfter (c .frame) whole (c .regs))
   unfolding lockAfter
   lock-fast whole f b =
       pick-ind (Fast h) (ties (c .frame)) _ _
       (λ t. pick-ind (Fast h) whole _ _ (λ u l. absurd (subst T (sym l) tt)) (λ u l. holder t))
-      (λ t. pick-ind (Fast h) (eqb (c .frame .control) 6 && whole) _ _ (λ u l. absurd (subst T (sym l) tt)) (λ u l. o))
+      (λ t. pick-ind (Fast h) (eqb (c .frame .control) 6 && whole) _ _ (λ u l. absurd (subst T (sym l) tt))
+      (λ u l. o))
     where
       holder : ties (c .frame) ≡ true → c .frame .master ≡ h
       holder t =
@@ -105,10 +109,12 @@ part-fast h c whole f =
     pick-ind (λ (a : Acted). Fast h (a .core .regs)) (draws (c .frame)) _ _ (λ t. f)
     (λ t. pick-ind (λ (a : Acted). Fast h (a .core .regs)) (c .frame .sends) _ _ (λ u. f) (λ u. f))
 
-ended-fast : (h : ℕ) (c : Core) (whole : Bool) → c .regs .holder ≡ h → Tied h (c .frame) → Fast h (endedOf c whole .core .regs)
+ended-fast : (h : ℕ) (c : Core) (whole : Bool) → c .regs .holder ≡ h → Tied h (c .frame)
+    → Fast h (endedOf c whole .core .regs)
 unfolding endedOf dataEnded Tied
 ended-fast h c whole o t =
-    pick-ind (λ (a : Acted). Fast h (a .core .regs)) (c .frame .leads) _ _ (λ l. request-fast h c o whole) (λ l. go (c .frame .spot .place) l t)
+    pick-ind (λ (a : Acted). Fast h (a .core .regs)) (c .frame .leads) _ _ (λ l. request-fast h c o whole)
+    (λ l. go (c .frame .spot .place) l t)
   where
     go : (p : Place) → c .frame .leads ≡ false → TiedAt h p (c .frame) → Fast h (slaveEnded p c whole .core .regs)
     go Waiting l t = λ k. o
@@ -129,13 +135,19 @@ cut-ok h c o t = go (c .frame .spot .place) refl
 
 -- ---- what leaves lock, lead, master, direction and control of a frame as they are
 
-bound-as : (h : ℕ) (f g : Frame) → g .leads ≡ f .leads → g .master ≡ f .master → g .sends ≡ f .sends → g .control ≡ f .control
+bound-as : (h : ℕ) (f g : Frame) → g .leads ≡ f .leads → g .master ≡ f .master → g .sends ≡ f .sends
+    → g .control ≡ f .control
     → Bound h f → Bound h g
 bound-as h f g l m s k b =
     ⊎-elim (λ x. inl (l ∙ x))
     (λ y. ⊎-elim
-      (λ x. inr (inl (record { follows = l ∙ x .follows; sends = s ∙ x .sends; open-control = ap openTo k ∙ x .open-control })))
-      (λ x. inr (inr (m ∙ x))) y)
+    (λ x. inr (inl (record {
+      follows = l ∙ x .follows;
+      sends = s ∙ x .sends;
+      open-control = ap openTo k
+          ∙ x .open-control;
+    })))
+    (λ x. inr (inr (m ∙ x))) y)
     b
 
 tied-as : (h : ℕ) (f g : Frame) → g .spot .place ≡ f .spot .place → (Bound h f → Bound h g) → Tied h f → Tied h g
@@ -180,7 +192,8 @@ module _ (h : ℕ) (c : Core) (g : Good h c) where
   good-byte byte =
       record {
         holder = g .holder;
-        tied = tied-as h (c .frame) (frame·byte byte (c .frame)) refl (bound-as h (c .frame) (frame·byte byte (c .frame)) refl refl refl refl) (g .tied);
+        tied = tied-as h (c .frame) (frame·byte byte (c .frame)) refl
+            (bound-as h (c .frame) (frame·byte byte (c .frame)) refl refl refl refl) (g .tied);
       }
 
   good-length : (byte : ℕ) → Good h (core·frame (withLength (c .frame) byte) c)
@@ -188,7 +201,8 @@ module _ (h : ℕ) (c : Core) (g : Good h c) where
   good-length byte =
       record {
         holder = g .holder;
-        tied = tied-as h (c .frame) (withLength (c .frame) byte) refl (bound-as h (c .frame) (withLength (c .frame) byte) refl refl refl refl) (g .tied);
+        tied = tied-as h (c .frame) (withLength (c .frame) byte) refl
+            (bound-as h (c .frame) (withLength (c .frame) byte) refl refl refl refl) (g .tied);
       }
 
 -- ---- the events
@@ -198,41 +212,46 @@ module _ (h : ℕ) (c : Core) (g : Good h c) (seen : Seen) where
   unfolding byteDrawn
   drawn-ok =
       pick-ind (λ (d : Core). Ok h (acted Take d)) (wanted (c .frame) seen) _ _
-      (λ t. good-ok h _ (good-code h _ (good-byte h c g (seen .front)) 1) Take) (λ t. good-ok h _ (good-byte h c g (seen .front)) Take)
+      (λ t. good-ok h _ (good-code h _ (good-byte h c g (seen .front)) 1) Take)
+      (λ t. good-ok h _ (good-byte h c g (seen .front)) Take)
 
   control-acked : Ok h (onControlAcked c seen)
   unfolding onControlAcked lengthDrawn
   control-acked =
       pick-ind (Ok h) (draws (c .frame)) _ _
       (λ t. good-ok h _ (good-length h (sendingBegun c) (good-begun h c g) (seen .front)) Take)
-      (λ t. pick-ind (Ok h) (c .frame .sends) _ _ (λ u. good-ok h _ (good-length h c g 1) Nothing) (λ u. good-ok h c g Nothing))
+      (λ t. pick-ind (Ok h) (c .frame .sends) _ _ (λ u. good-ok h _ (good-length h c g 1) Nothing)
+      (λ u. good-ok h c g Nothing))
 
   length-acked : Ok h (onLengthAcked c seen)
   unfolding onLengthAcked receptionBegun
   length-acked =
       pick-ind (Ok h) (draws (c .frame)) _ _ (λ t. drawn-ok)
       (λ t. pick-ind (Ok h) (c .frame .sends) _ _ (λ u. good-ok h _ (good-byte h c g _) Nothing)
-        (λ u. good-ok h _ (good-count h _ (good-code h c g _) 3) _))
+      (λ u. good-ok h _ (good-count h _ (good-code h c g _) 3) _))
 
   byte-acked : (byte : ℕ) → Ok h (onByteAcked c byte seen)
   unfolding onByteAcked nextDrawn counted
   byte-acked byte =
       pick-ind (Ok h) (draws (c .frame)) _ _
       (λ t. pick-ind (Ok h) (eqb (seen .waiting) 0) _ _ (λ u. cut-ok h c (g .holder) (g .tied)) (λ u. drawn-ok))
-      (λ t. pick-ind (Ok h) (c .frame .sends) _ _ (λ u. good-ok h c g Nothing) (λ u. good-ok h _ (good-count h c g _) _))
+      (λ t. pick-ind (Ok h) (c .frame .sends) _ _ (λ u. good-ok h c g Nothing)
+      (λ u. good-ok h _ (good-count h c g _) _))
 
   last-fast : (byte : ℕ) (whole : Bool) → Fast h (lastAcked c byte whole .core .regs)
   unfolding lastAcked counted
   last-fast byte whole =
-      pick-ind (λ (a : Acted). Fast h (a .core .regs)) (c .frame .sends) _ _ (λ t. ended-fast h c whole (g .holder) (g .tied))
+      pick-ind (λ (a : Acted). Fast h (a .core .regs)) (c .frame .sends) _ _
+      (λ t. ended-fast h c whole (g .holder) (g .tied))
       (λ t. let d = good-count h c g _ in ended-fast h _ whole (d .holder) (d .tied))
 
   lost-ok : Ok h (onLost c)
   unfolding onLost requestEnded
   lost-ok =
-      pick-ind (Ok h) (ltb (c .regs .losses) (c .regs .retries)) _ _ (λ t. record { fast = λ k. g .holder; tied = g .tied })
+      pick-ind (Ok h) (ltb (c .regs .losses) (c .regs .retries)) _ _
+      (λ t. record { fast = λ k. g .holder; tied = g .tied })
       (λ t. pick-ind (Ok h) (writesOf (c .regs .control)) _ _ (λ u. record { fast = λ k. g .holder; tied = g .tied })
-        (λ u. record { fast = λ k. g .holder; tied = g .tied }))
+      (λ u. record { fast = λ k. g .holder; tied = g .tied }))
 
   addressed-ok : Ok h (acted Nothing (onAddressed c))
   unfolding onAddressed
@@ -257,11 +276,13 @@ module _ (h : ℕ) (c : Core) (seen : Seen) (g : Good h c) where
   unfolding Leaves onEvent leftOf doneOf Tied
   aborted f = record { fast = ended-fast h c false (g .holder) (g .tied); tied = tt }
 
-  gone-on : (f : Frame) (field : Field) (n : ℕ) (goes : Bool) → (goes ≡ true → Tied h (nextOf f field n)) → Leaves (step.goOn f field n goes)
+  gone-on : (f : Frame) (field : Field) (n : ℕ) (goes : Bool) → (goes ≡ true → Tied h (nextOf f field n))
+      → Leaves (step.goOn f field n goes)
   unfolding step.goOn
   gone-on f field n goes t = pick-ind Leaves goes _ _ (λ y. quiet (nextOf f field n) (t y)) (λ y. aborted f)
 
-  acked-ok : (e : Event) (f : Frame) (acked : Bool) (field : Field) → Leaves (moved e (toField f field)) → Leaves (step.afterAck f acked field e)
+  acked-ok : (e : Event) (f : Frame) (acked : Bool) (field : Field) → Leaves (moved e (toField f field))
+      → Leaves (step.afterAck f acked field e)
   unfolding step.afterAck
   acked-ok e f acked field y = pick-ind Leaves acked _ _ (λ t. y) (λ t. aborted f)
 
@@ -272,28 +293,31 @@ module _ (h : ℕ) (c : Core) (seen : Seen) (g : Good h c) where
   on-master : (f : Frame) (n : ℕ) (b : Bool) → Leaves (step.atMaster f n b)
   unfolding step.atMaster step.masterOf shiftedOf nextOf toField Tied Leaves onEvent
   on-master f n b =
-      pick-ind Leaves (ltb n 12) _ _ (λ t. quiet _ tt) (λ t. addressed-ok h _ (with-frame (step.masterOf f (parityHolds (f .shift) b)) tt) seen)
+      pick-ind Leaves (ltb n 12) _ _ (λ t. quiet _ tt)
+      (λ t. addressed-ok h _ (with-frame (step.masterOf f (parityHolds (f .shift) b)) tt) seen)
 
   on-slave : (f : Frame) (n : ℕ) (b : Bool) (own : ℕ) → Leaves (step.atSlave f n b own)
   unfolding step.atSlave step.slaveJudged shiftedOf nextOf toField Tied
   on-slave f n b own =
       pick-ind Leaves (ltb n 12) _ _ (λ t. quiet _ tt)
       (λ t. pick-ind Leaves (eqb n 12) _ _ (λ y. gone-on _ Slave n _ (λ z. tt))
-        (λ y. acked-ok Quiet f (step.headerAck f b) Control (quiet (toField f Control) (λ l. absurd (omega arith)))))
+      (λ y. acked-ok Quiet f (step.headerAck f b) Control (quiet (toField f Control) (λ l. absurd (omega arith)))))
 
   -- P of the control: who goes on is the unit's own, harmless, or the holder's
   judged-bound : (v : View) → v .locked ≡ true → v .holder ≡ h → (f : Frame) (ack : Bool) (control : ℕ) (held : Bool)
-      → ack ≡ (held && acceptedOf (controlOf control (strangerOf v (f .master)) (v .strq) (v .ready) (v .locked)) (f .broadcast))
+      → ack ≡ (held && acceptedOf (controlOf control (strangerOf v (f .master)) (v .strq) (v .ready) (v .locked))
+      (f .broadcast))
       → (f .leads || ack) ≡ true → Bound h (step.withControl f control ack (Bool·beq (f .leads) (writesOf control)))
   unfolding step.withControl strangerOf
   judged-bound v l o f ack control held a goes =
       ⊎-elim (λ x. inl x)
       (λ x. ⊎-elim
-        (λ y. inr (inr (sym (eqb-true h (f .master) (ap (λ (k : ℕ). eqb k (f .master)) (sym o) ∙ y)))))
-        (λ y. inr (inl (judged-harmless f control ack x
-          (accepted-open control (strangerOf v (f .master)) (v .strq) (v .ready) (v .locked) held (f .broadcast)
-            (ap₂ (λ (p q : Bool). p && not q) l y) (sym a ∙ subst (λ (leads : Bool). (leads || ack) ≡ true) x goes)))))
-        (either (eqb (v .holder) (f .master))))
+      (λ y. inr (inr (sym (eqb-true h (f .master) (ap (λ (k : ℕ). eqb k (f .master)) (sym o) ∙ y)))))
+      (λ y. inr (inl (judged-harmless f control ack x
+      (accepted-open control (strangerOf v (f .master)) (v .strq) (v .ready) (v .locked) held (f .broadcast)
+      (ap₂ (λ (p q : Bool). p && not q) l y) (sym a ∙ subst
+      (λ (leads : Bool). (leads || ack) ≡ true) x goes)))))
+      (either (eqb (v .holder) (f .master))))
       (either (f .leads))
 
   on-control : (v : View) → v .locked ≡ true → v .holder ≡ h → (f : Frame) (n : ℕ) (b : Bool) → (4 < n → Bound h f)
@@ -302,40 +326,48 @@ module _ (h : ℕ) (c : Core) (seen : Seen) (g : Good h c) where
   on-control v l o f n b t =
       pick-ind Leaves (ltb n 4) _ _ (λ y. quiet _ (λ past. absurd (omega (arith, ltb-true n 4 y))))
       (λ y. pick-ind Leaves (eqb n 4) _ _
-        (λ z. gone-on _ Control n _
-          (λ goes past. bound-as h _ _ refl refl refl refl (judged-bound v l o f _ (f .shift % 16) (parityHolds (f .shift) b) refl goes)))
-        (λ z. acked-ok ControlAcked f (step.headerAck f b) Length
-          (control-acked h _ (with-frame (toField f Length) (bound-as h f (toField f Length) refl refl refl refl (t (omega (arith, ltb-false n 4 y, eqb-false n 4 z))))) seen)))
+      (λ z. gone-on _ Control n _
+      (λ goes past. bound-as h _ _ refl refl refl refl
+      (judged-bound v l o f _ (f .shift % 16) (parityHolds (f .shift) b) refl goes)))
+      (λ z. acked-ok ControlAcked f (step.headerAck f b) Length
+      (control-acked h _ (with-frame (toField f Length)
+      (bound-as h f (toField f Length) refl refl refl refl
+      (t (omega (arith, ltb-false n 4 y, eqb-false n 4 z))))) seen)))
 
   on-length : (f : Frame) (n : ℕ) (b : Bool) → Bound h f → Leaves (step.atLength f n b)
   unfolding step.atLength step.lengthJudged step.withAck withLength shiftedOf nextOf toField Tied Leaves onEvent
   on-length f n b t =
       pick-ind Leaves (ltb n 8) _ _ (λ y. quiet _ (bound-as h f _ refl refl refl refl t))
       (λ y. pick-ind Leaves (eqb n 8) _ _
-        (λ z. pick-ind Leaves (f .sends) _ _ (λ u. gone-on _ Length n _ (λ w. bound-as h f _ refl refl refl refl t))
-          (λ u. gone-on _ Length n _ (λ w. bound-as h f _ refl refl refl refl t)))
-        (λ z. acked-ok LengthAcked f (step.textAck f b) Data
-          (length-acked h _ (with-frame (toField f Data) (bound-as h f (toField f Data) refl refl refl refl t)) seen)))
+      (λ z. pick-ind Leaves (f .sends) _ _ (λ u. gone-on _ Length n _ (λ w. bound-as h f _ refl refl refl refl t))
+      (λ u. gone-on _ Length n _ (λ w. bound-as h f _ refl refl refl refl t)))
+      (λ z. acked-ok LengthAcked f (step.textAck f b) Data
+      (length-acked h _ (with-frame (toField f Data) (bound-as h f (toField f Data) refl refl refl refl t))
+      seen)))
 
   last-ok : (byte : ℕ) (whole : Bool) (f : Frame) → Tied h f → Ok h (leftOf (lastAcked c byte whole) f)
   unfolding leftOf
   last-ok byte whole f t = record { fast = last-fast h c g seen byte whole; tied = t }
 
   on-data : (f : Frame) (n : ℕ) (b : Bool) → Bound h f → Leaves (step.atData f n b)
-  unfolding step.atData step.dataJudged step.dataAcked step.endsOf step.againOf step.withAck step.ackedOf step.countedOf
+  unfolding step.atData step.dataJudged step.dataAcked step.endsOf step.againOf step.withAck step.ackedOf
+      step.countedOf
       shiftedOf nextOf toField doneOf Tied Leaves onEvent
   on-data f n b t =
       pick-ind Leaves (ltb n 8) _ _ (λ y. quiet _ (bound-as h f _ refl refl refl refl t))
       (λ y. pick-ind Leaves (eqb n 8) _ _
-        (λ z. pick-ind Leaves (f .sends) _ _ (λ u. gone-on _ Data n _ (λ w. bound-as h f _ refl refl refl refl t))
-          (λ u. gone-on _ Data n _ (λ w. bound-as h f _ refl refl refl refl t)))
-        (λ z. pick-ind Leaves (step.textAck f b) _ _
-          (λ u. pick-ind Leaves (step.wholeOf f) _ _ (λ w. last-ok _ true _ tt)
-            (λ w. pick-ind Leaves (step.lastOf f) _ _ (λ q. last-ok _ false _ tt)
-              (λ q. byte-acked h _ (with-frame (toField (step.ackedOf (step.countedOf f)) Data) (bound-as h f _ refl refl refl refl t)) seen _)))
-          (λ u. pick-ind Leaves (step.lastOf f) _ _ (λ w. aborted (step.countedOf f)) (λ w. quiet _ (bound-as h f _ refl refl refl refl t)))))
+      (λ z. pick-ind Leaves (f .sends) _ _ (λ u. gone-on _ Data n _ (λ w. bound-as h f _ refl refl refl refl t))
+      (λ u. gone-on _ Data n _ (λ w. bound-as h f _ refl refl refl refl t)))
+      (λ z. pick-ind Leaves (step.textAck f b) _ _
+      (λ u. pick-ind Leaves (step.wholeOf f) _ _ (λ w. last-ok _ true _ tt)
+      (λ w. pick-ind Leaves (step.lastOf f) _ _ (λ q. last-ok _ false _ tt)
+      (λ q. byte-acked h _ (with-frame (toField (step.ackedOf (step.countedOf f)) Data)
+      (bound-as h f _ refl refl refl refl t)) seen _)))
+      (λ u. pick-ind Leaves (step.lastOf f) _ _ (λ w. aborted (step.countedOf f))
+      (λ w. quiet _ (bound-as h f _ refl refl refl refl t)))))
 
-  on-field : (v : View) → v .locked ≡ true → v .holder ≡ h → (f : Frame) (field : Field) (n : ℕ) (b : Bool) → TiedAt h (In field n) f
+  on-field : (v : View) → v .locked ≡ true → v .holder ≡ h → (f : Frame) (field : Field) (n : ℕ) (b : Bool)
+      → TiedAt h (In field n) f
       → Leaves (step.atField f field n b v)
   unfolding step.atField
   on-field v l o f Broadcast n b t = on-broadcast f b
@@ -357,14 +389,15 @@ module _ (h : ℕ) (c : Core) (seen : Seen) (g : Good h c) where
   lost-tied v f Length n b e = absurd (subst T (sym e) tt)
   lost-tied v f Data n b e = absurd (subst T (sym e) tt)
 
-  on-place : (v : View) → v .locked ≡ true → v .holder ≡ h → (f : Frame) (p : Place) (b : Bool) → f .spot .place ≡ p → TiedAt h p f
+  on-place : (v : View) → v .locked ≡ true → v .holder ≡ h → (f : Frame) (p : Place) (b : Bool) → f .spot .place ≡ p
+      → TiedAt h p f
       → Leaves (step.atPlace f p b v)
   unfolding step.inField step.overruledOf Leaves onEvent Tied
   on-place v l o f Waiting b e t = quiet f (subst (λ (p : Place). TiedAt h p f) (sym e) tt)
   on-place v l o f (In field n) b e t =
       pick-ind Leaves (clashOf f field n b v) _ _
       (λ y. pick-ind Leaves (contestedOf field n) _ _
-        (λ z. lost-ok h _ (with-frame _ (lost-tied v (lostOf f) field n b z)) seen) (λ z. aborted f))
+      (λ z. lost-ok h _ (with-frame _ (lost-tied v (lostOf f) field n b z)) seen) (λ z. aborted f))
       (λ y. on-field v l o f field n b t)
 
 -- ---- any word
@@ -392,10 +425,11 @@ module _ (h : ℕ) (s : State) (bond : Bonded h s) where
   level-ok b =
       let seen = seenOf (s .tbf) (s .rbf) in
       on-place h (core·idle false (s .core)) seen (record { holder = bond .holder; tied = bond .tied })
-      (viewOf (s .core .regs) (seen .clear)) (bond .locked) (bond .holder) (s .core .frame) (s .core .frame .spot .place) b refl (bond .tied)
+      (viewOf (s .core .regs) (seen .clear)) (bond .locked) (bond .holder) (s .core .frame)
+      (s .core .frame .spot .place) b refl (bond .tied)
 
   slot-bonded : (k : Slot) → StillBonded h (slotOn s k)
-  unfolding slotOn onStart onIdle begunOf Tied
+  unfolding slotOn onStart begun onIdle begunOf Tied
   slot-bonded (Level b) =
       pick-ind (StillBonded h) (clashes s b) _ _ (λ t. record { fast = λ l. bond .holder; tied = bond .tied })
       (λ t. acted-bonded _ (level-ok b))
@@ -419,8 +453,9 @@ unfolding registers.commanded registers.requested registers.lorCopied
 commanded-lock r v =
     pick-ind (SameLock r) (eqb v 0x08) _ _ (λ t. record { locked = refl; holder = refl })
     (λ t. pick-ind (SameLock r) (eqb v 0x0B) _ _ (λ u. record { locked = refl; holder = refl })
-      (λ u. pick-ind (SameLock r) (eqb v 0x0F) _ _ (λ w. record { locked = refl; holder = refl })
-        (λ w. pick-ind (SameLock r) (r .locked) _ _ (λ x. record { locked = refl; holder = refl }) (λ x. record { locked = refl; holder = refl }))))
+    (λ u. pick-ind (SameLock r) (eqb v 0x0F) _ _ (λ w. record { locked = refl; holder = refl })
+    (λ w. pick-ind (SameLock r) (r .locked) _ _ (λ x. record { locked = refl; holder = refl })
+    (λ x. record { locked = refl; holder = refl }))))
 
 written-lock : (r : Registers) (register v : ℕ) → SameLock r (registers.written r register v)
 unfolding registers.written registers.uar1Written registers.mcrWritten
@@ -428,10 +463,11 @@ written-lock r register v =
     pick-ind (SameLock r) (eqb register 0x0) _ _
     (λ t. pick-ind (SameLock r) (eqb v 0x10) _ _ (λ u. record { locked = refl; holder = refl }) (λ u. unmoved r))
     (λ t. pick-ind (SameLock r) (eqb register 0x1) _ _ (λ u. commanded-lock r v)
-      (λ u. pick-ind (SameLock r) (eqb register 0x2) _ _ (λ w. record { locked = refl; holder = refl })
-        (λ w. pick-ind (SameLock r) (eqb register 0x3) _ _ (λ x. record { locked = refl; holder = refl })
-          (λ x. pick-ind (SameLock r) (eqb register 0x4) _ _ (λ y. record { locked = refl; holder = refl })
-            (λ y. pick-ind (SameLock r) (eqb register 0x5) _ _ (λ z. record { locked = refl; holder = refl }) (λ z. record { locked = refl; holder = refl }))))))
+    (λ u. pick-ind (SameLock r) (eqb register 0x2) _ _ (λ w. record { locked = refl; holder = refl })
+    (λ w. pick-ind (SameLock r) (eqb register 0x3) _ _ (λ x. record { locked = refl; holder = refl })
+    (λ x. pick-ind (SameLock r) (eqb register 0x4) _ _ (λ y. record { locked = refl; holder = refl })
+    (λ y. pick-ind (SameLock r) (eqb register 0x5) _ _ (λ z. record { locked = refl; holder = refl })
+    (λ z. record { locked = refl; holder = refl }))))))
 
 abbrev Tells : Registers → Told → Type 0
 Tells r (wrote q tbf) = SameLock r q
@@ -444,18 +480,19 @@ unfolding toldOf registers.writeTold registers.writeDone registers.readTold
 told-lock r tbf rbf w =
     pick-ind (Tells r) (eqb (kindOf w) 1) _ _
     (λ t. pick-ind (Tells r) (eqb (w / 256 % 65536) 0) _ _
-      (λ u. pick-ind (Tells r) (eqb (registers.writeRefusal r (length tbf) (registers.registerOf w) (registers.valueOf w)) 0) _ _
-        (λ x. pick-ind (Tells r) (eqb (registers.registerOf w) 0xE) _ _ (λ y. unmoved r)
-          (λ y. pick-ind (Tells r) (eqb (registers.registerOf w) 0x0 && eqb (registers.valueOf w) 0x08) _ _ (λ z. tt)
-            (λ z. written-lock r (registers.registerOf w) (registers.valueOf w))))
-        (λ x. tt))
-      (λ u. tt))
+    (λ u. pick-ind (Tells r) (eqb (registers.writeRefusal r (length tbf) (registers.registerOf w)
+    (registers.valueOf w)) 0) _ _
+    (λ x. pick-ind (Tells r) (eqb (registers.registerOf w) 0xE) _ _ (λ y. unmoved r)
+    (λ y. pick-ind (Tells r) (eqb (registers.registerOf w) 0x0 && eqb (registers.valueOf w) 0x08) _ _ (λ z. tt)
+    (λ z. written-lock r (registers.registerOf w) (registers.valueOf w))))
+    (λ x. tt))
+    (λ u. tt))
     (λ t. pick-ind (Tells r) (eqb (kindOf w) 2) _ _
-      (λ u. pick-ind (Tells r) (eqb (w % 0x0100_0000) 0) _ _
-        (λ x. pick-ind (Tells r) (eqb (registers.readRefusal (registers.registerOf w) (isEmpty rbf)) 0) _ _
-          (λ y. pick-ind (Tells r) (eqb (registers.registerOf w) 0xE) _ _ (λ z. tt) (λ z. tt)) (λ y. tt))
-        (λ x. tt))
-      (λ u. tt))
+    (λ u. pick-ind (Tells r) (eqb (w % 0x0100_0000) 0) _ _
+    (λ x. pick-ind (Tells r) (eqb (registers.readRefusal (registers.registerOf w) (isEmpty rbf)) 0) _ _
+    (λ y. pick-ind (Tells r) (eqb (registers.registerOf w) 0xE) _ _ (λ z. tt) (λ z. tt)) (λ y. tt))
+    (λ x. tt))
+    (λ u. tt))
 
 module _ (h : ℕ) (s : State) (bond : Bonded h s) where
   told-bonded : (y : Told) → Tells (s .core .regs) y → StillBonded h (toldOn s y)
@@ -467,7 +504,8 @@ module _ (h : ℕ) (s : State) (bond : Bonded h s) where
 
   word-bonded : (w : ℕ) (k : Class) → StillBonded h (stepAs k s w)
   word-bonded w (slot c) = slot-bonded h s bond c
-  word-bonded w host = told-bonded (toldOf (s .core .regs) (s .tbf) (s .rbf) w) (told-lock (s .core .regs) (s .tbf) (s .rbf) w)
+  word-bonded w host = told-bonded (toldOf (s .core .regs) (s .tbf) (s .rbf) w)
+      (told-lock (s .core .regs) (s .tbf) (s .rbf) w)
 
   step-bonded : (w : ℕ) → StillBonded h (stepOf s w)
   unfolding stepOf
@@ -488,7 +526,13 @@ bonded-run h (w ∷ A) (suc i) s bond l =
 
 -- from a unit that waits for a start, locked to h: as long as it is locked, whatever the words, it is locked to h
 pub never-another : (h : ℕ) (s : State) (A : List ℕ) (i : ℕ) → waiting s → s .core .regs .holder ≡ h
-    → ((k : ℕ) → k ≤ i → run unit s (take k A) .core .regs .locked ≡ true) → run unit s (take i A) .core .regs .holder ≡ h
+    → ((k : ℕ) → k ≤ i → run unit s (take k A) .core .regs .locked ≡ true)
+    → run unit s (take i A) .core .regs .holder ≡ h
 unfolding Tied run
 never-another h s A i w o l =
-    bonded-run h A i s (record { locked = l 0 (omega arith); holder = o; tied = subst (λ (p : Place). TiedAt h p (s .core .frame)) (sym w) tt }) l .holder
+    bonded-run h A i s (record {
+      locked = l 0 (omega arith);
+      holder = o;
+      tied = subst
+          (λ (p : Place). TiedAt h p (s .core .frame)) (sym w) tt;
+    }) l .holder

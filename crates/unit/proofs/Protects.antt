@@ -26,8 +26,10 @@ use Rattle.unit.specs.Set.{acted·core, core·frame, core·idle, core·r
 use Rattle.unit.specs.State.{State, reset, isEmpty, seenOf, takesPart, tbfAfter, rbfAfter, viewOf}
 use Rattle.unit.specs.Endings.{acted, cutAt, cutOf, endedOf, leftOf}
 use Rattle.unit.specs.Slots.{coreDrive, driveAt, onEvent, onIdle, onLevel, onMoved, onStart}
+use Rattle.unit.specs.Slots as slots
 use Rattle.unit.specs.Registers.{Told, wrote, restarted, gave, denied, toldOf}
-use Rattle.unit.specs.Step.{actedOn, answerOf, clashes, driveOf, saidAs, slotOn, slotSaid, stepAs, stepOf, toldOn, toldSaid}
+use Rattle.unit.specs.Step.{actedOn, answerOf, clashes, driveOf, saidAs, slotOn, slotSaid, stepAs, stepOf}
+use Rattle.unit.specs.Step.{toldOn, toldSaid}
 use Rattle.unit.specs.Step.{wordOf}
 use Rattle.unit.specs.Machine.{Observed, observed, unit, waiting}
 use Rattle.unit.specs.declared.answer.Answer.{Answer}
@@ -39,7 +41,8 @@ use Rattle.unit.specs.declared.state.Acted.{Acted}
 use Rattle.unit.specs.declared.state.Core.{Core}
 use Rattle.unit.specs.declared.state.Registers.{Registers}
 use Rattle.unit.specs.declared.state.Seen.{Seen}
-use Rattle.unit.proofs.Answers.{latest-taken, latest-written, latest-read, latest-refused, shown-written, shown-read}
+use Rattle.unit.proofs.Answers.{latest-taken, latest-written, latest-read, latest-refused, shown-written}
+use Rattle.unit.proofs.Answers.{shown-read}
 use Rattle.unit.proofs.Calm.{pick-ind, pick-yes, pick-no, CalmAt, Calm, calm-ended}
 use Rattle.unit.proofs.Strangers.{Unmoved, on-level}
 
@@ -90,14 +93,17 @@ cut-waits c = go (c .frame .spot .place) refl
     go (In field n) e = refl
 
 -- a cut of a stranger's frame changes nothing that lasts
-cut-calm : (h : ℕ) (c : Core) (bs : List Bool) → Calm h (c .frame) bs → (cutOf c .core .regs ≡ c .regs) × (cutOf c .act ≡ Nothing)
+cut-calm : (h : ℕ) (c : Core) (bs : List Bool) → Calm h (c .frame) bs
+    → (cutOf c .core .regs ≡ c .regs) × (cutOf c .act ≡ Nothing)
 unfolding cutOf leftOf Calm
 cut-calm h c bs x = go (c .frame .spot .place) refl x
   where
-    go : (p : Place) → c .frame .spot .place ≡ p → CalmAt h p (c .frame) bs → (cutAt p c .core .regs ≡ c .regs) × (cutAt p c .act ≡ Nothing)
+    go : (p : Place) → c .frame .spot .place ≡ p → CalmAt h p (c .frame) bs
+        → (cutAt p c .core .regs ≡ c .regs) × (cutAt p c .act ≡ Nothing)
     go Waiting e y = (refl, refl)
     go (In field n) e y =
-        subst (λ (a : Acted). (leftOf a (doneOf (c .frame)) .core .regs ≡ c .regs) × (leftOf a (doneOf (c .frame)) .act ≡ Nothing))
+        subst (λ (a : Acted). (leftOf a (doneOf (c .frame)) .core .regs ≡ c .regs)
+        × (leftOf a (doneOf (c .frame)) .act ≡ Nothing))
         (sym (calm-ended h field n c bs false e y)) (refl, refl)
 
 -- ---- a word by its class
@@ -114,12 +120,15 @@ said s w k r = ap (λ (c : Class). saidAs c s (stepOf s w) w) r
 after : Acted → State → Lasting
 after a s = record { regs = a .core .regs; tbf = tbfAfter (a .act) (s .tbf); rbf = rbfAfter (a .act) (s .rbf) }
 
-after-same : (a : Acted) (s : State) → a .core .regs ≡ s .core .regs → a .act ≡ Nothing → lasting (actedOn s a) ≡ lasting s
+after-same : (a : Acted) (s : State) → a .core .regs ≡ s .core .regs → a .act ≡ Nothing
+    → lasting (actedOn s a) ≡ lasting s
 unfolding after tbfAfter rbfAfter
-after-same a s e q = ap₂ (λ (r : Registers) (x : Act). record { regs = r; tbf = tbfAfter x (s .tbf); rbf = rbfAfter x (s .rbf) }) e q
+after-same a s e q = ap₂ (λ (r : Registers) (x : Act). record
+    { regs = r; tbf = tbfAfter x (s .tbf); rbf = rbfAfter x (s .rbf) }) e q
 
 -- what is driven after a slot that is taken
-taken-drive : (d : ℕ) (t : State) → waiting t → t .core .regs .marq ≡ false → latest d (wordOf (Given (Taken (driveOf t)))) ≡ 1
+taken-drive : (d : ℕ) (t : State) → waiting t → t .core .regs .marq ≡ false
+    → latest d (wordOf (Given (Taken (driveOf t)))) ≡ 1
 taken-drive d t e q = latest-taken d (driveOf t) ∙ ap (λ (x : ℕ). x % 4) (drive-waiting t e q)
 
 -- ---- stray bits, idle slots
@@ -127,8 +136,11 @@ taken-drive d t e q = latest-taken d (driveOf t) ∙ ap (λ (x : ℕ). x % 4) (d
 stray-word : (s : State) (w : ℕ) → classOf w ≡ slot Stray
     → (stepOf s w ≡ s) × ((d : ℕ) → latest d (wordOf (answerOf s w)) ≡ d)
 unfolding slotOn slotSaid
-stray-word s w r =
-    (stepped s w (slot Stray) r, λ d. ap (λ (a : Answer). latest d (wordOf a)) (said s w (slot Stray) r) ∙ latest-refused d 2)
+stray-word s w r = (
+  stepped s w (slot Stray) r,
+  λ d. ap (λ (a : Answer). latest d (wordOf a)) (said s w (slot Stray) r)
+      ∙ latest-refused d 2,
+)
 
 idle-waits : (s : State) (w : ℕ) → classOf w ≡ slot Idle → waiting (stepOf s w)
 unfolding slotOn onIdle
@@ -139,26 +151,32 @@ idle-word : (s : State) (w : ℕ) → classOf w ≡ slot Idle
 unfolding slotSaid
 idle-word s w r = (
   idle-waits s w r,
-  λ q d. ap (λ (a : Answer). latest d (wordOf a)) (said s w (slot Idle) r) ∙ taken-drive d (stepOf s w) (idle-waits s w r) q,
+  λ q d. ap (λ (a : Answer). latest d (wordOf a)) (said s w (slot Idle) r)
+      ∙ taken-drive d (stepOf s w) (idle-waits s w r) q,
 )
 
-idle-keeps : (s : State) (w : ℕ) → classOf w ≡ slot Idle → cutOf (s .core) .core .regs ≡ s .core .regs → cutOf (s .core) .act ≡ Nothing
+idle-keeps : (s : State) (w : ℕ) → classOf w ≡ slot Idle → cutOf (s .core) .core .regs ≡ s .core .regs
+    → cutOf (s .core) .act ≡ Nothing
     → lasting (stepOf s w) ≡ lasting s
 unfolding slotOn onIdle
 idle-keeps s w r e q = ap lasting (stepped s w (slot Idle) r) ∙ after-same (onIdle (s .core)) s e q
 
 wait-idle-word : (s : State) (w : ℕ) → classOf w ≡ slot Idle → waiting s → lasting (stepOf s w) ≡ lasting s
 wait-idle-word s w r e =
-    idle-keeps s w r (ap (λ (a : Acted). a .core .regs) (cut-waiting (s .core) e)) (ap (λ (a : Acted). a .act) (cut-waiting (s .core) e))
+    idle-keeps s w r (ap (λ (a : Acted). a .core .regs) (cut-waiting (s .core) e))
+    (ap (λ (a : Acted). a .act) (cut-waiting (s .core) e))
 
 -- ---- a level while the unit waits
 
-level-waiting : (c : Core) (b : Bool) (seen : Seen) → c .frame .spot .place ≡ Waiting → onLevel c b seen ≡ acted Nothing (core·idle false c)
+level-waiting : (c : Core) (b : Bool) (seen : Seen) → c .frame .spot .place ≡ Waiting
+    → onLevel c b seen ≡ acted Nothing (core·idle false c)
 unfolding onLevel step.levelOf onEvent
 level-waiting c b seen e =
-    ap (λ (p : Place). onMoved (core·idle false c) (step.atPlace (c .frame) p b (viewOf (c .regs) (seen .clear))) seen) e
+    ap (λ (p : Place). onMoved (core·idle false c)
+    (step.atPlace (c .frame) p b (viewOf (c .regs) (seen .clear))) seen) e
 
-module _ (s : State) (w : ℕ) (b : Bool) (r : classOf w ≡ slot (Level b)) (e : waiting s) (q : s .core .regs .marq ≡ false) where
+module _ (s : State) (w : ℕ) (b : Bool) (r : classOf w ≡ slot (Level b)) (e : waiting s)
+    (q : s .core .regs .marq ≡ false) where
   free : clashes s b ≡ false
   free = no-refusal s b (drive-waiting s e q)
 
@@ -172,12 +190,11 @@ module _ (s : State) (w : ℕ) (b : Bool) (r : classOf w ≡ slot (Level b)) (e 
   unfolding slotSaid tbfAfter rbfAfter
   wait-level-word =
       let waits : waiting (stepOf s w) = subst waiting (sym wait-stepped) e in
-      let same : lasting (stepOf s w) ≡ lasting s = ap lasting wait-stepped in
-      (
+      let same : lasting (stepOf s w) ≡ lasting s = ap lasting wait-stepped in (
         waits,
         same,
         ap (λ (a : Answer). latest 1 (wordOf a)) (said s w (slot (Level b)) r ∙ pick-no (clashes s b) _ _ free)
-        ∙ taken-drive 1 (stepOf s w) waits (ap (λ (k : Lasting). k .regs .marq) same ∙ q),
+            ∙ taken-drive 1 (stepOf s w) waits (ap (λ (k : Lasting). k .regs .marq) same ∙ q),
       )
 
 -- ---- host words
@@ -191,7 +208,9 @@ told-waits (gave rbf v) s e =
     (e, λ q. latest-read 1 v _ ∙ ap (λ (x : ℕ). x % 4) (drive-waiting (toldOn s (gave rbf v)) e q))
 told-waits (denied n) s e = (e, λ q. latest-refused 1 n)
 
-host-told : (s : State) (w : ℕ) → classOf w ≡ host → answerOf s w ≡ toldSaid (toldOn s (toldOf (s .core .regs) (s .tbf) (s .rbf) w)) (toldOf (s .core .regs) (s .tbf) (s .rbf) w)
+host-told : (s : State) (w : ℕ) → classOf w ≡ host
+    → answerOf s w ≡ toldSaid (toldOn s (toldOf (s .core .regs) (s .tbf) (s .rbf) w))
+    (toldOf (s .core .regs) (s .tbf) (s .rbf) w)
 host-told s w r =
     said s w host r ∙ ap (λ (t : State). toldSaid t (toldOf (s .core .regs) (s .tbf) (s .rbf) w)) (stepped s w host r)
 
@@ -200,25 +219,36 @@ wait-host-word : (s : State) (w : ℕ) → classOf w ≡ host → waiting s
 wait-host-word s w r e =
     let y = told-waits (toldOf (s .core .regs) (s .tbf) (s .rbf) w) s e in (
       subst waiting (sym (stepped s w host r)) (y .0),
-      λ q. ap (λ (a : Answer). latest 1 (wordOf a)) (host-told s w r) ∙ y .1 (ap (λ (t : State). t .core .regs .marq) (sym (stepped s w host r)) ∙ q),
+      λ q. ap (λ (a : Answer). latest 1 (wordOf a)) (host-told s w r)
+          ∙ y .1 (ap (λ (t : State). t .core .regs .marq) (sym (stepped s w host r)) ∙ q),
     )
 
 told-same : (y : Told) (s t : State) → lasting s ≡ lasting t
-    → (lasting (toldOn s y) ≡ lasting (toldOn t y)) × (shown host (wordOf (toldSaid (toldOn s y) y)) ≡ shown host (wordOf (toldSaid (toldOn t y) y)))
-told-same (wrote r tbf) s t e = (ap (λ (k : Lasting). record { regs = r; tbf = tbf; rbf = k .rbf }) e, shown-written _ _)
+    → (lasting (toldOn s y) ≡ lasting (toldOn t y))
+    × (shown host (wordOf (toldSaid (toldOn s y) y)) ≡ shown host (wordOf (toldSaid (toldOn t y) y)))
+told-same (wrote r tbf) s t e = (
+  ap (λ (k : Lasting). record { regs = r; tbf = tbf; rbf = k .rbf }) e,
+  shown-written _
+      _,
+)
 told-same restarted s t e = (refl, refl)
-told-same (gave rbf v) s t e = (ap (λ (k : Lasting). record { regs = k .regs; tbf = k .tbf; rbf = rbf }) e, shown-read v _ _)
+told-same (gave rbf v) s t e = (
+  ap (λ (k : Lasting). record { regs = k .regs; tbf = k .tbf; rbf = rbf }) e,
+  shown-read
+      v _ _,
+)
 told-same (denied n) s t e = (e, refl)
 
 host-word : (s t : State) (w : ℕ) → classOf w ≡ host → lasting s ≡ lasting t
-    → (lasting (stepOf s w) ≡ lasting (stepOf t w)) × (shown host (wordOf (answerOf s w)) ≡ shown host (wordOf (answerOf t w)))
+    → (lasting (stepOf s w) ≡ lasting (stepOf t w))
+    × (shown host (wordOf (answerOf s w)) ≡ shown host (wordOf (answerOf t w)))
 host-word s t w r e =
     let told : toldOf (s .core .regs) (s .tbf) (s .rbf) w ≡ toldOf (t .core .regs) (t .tbf) (t .rbf) w
-          = ap (λ (k : Lasting). toldOf (k .regs) (k .tbf) (k .rbf) w) e in
+    = ap (λ (k : Lasting). toldOf (k .regs) (k .tbf) (k .rbf) w) e in
     let y = told-same (toldOf (t .core .regs) (t .tbf) (t .rbf) w) s t e in (
       ap lasting (stepped s w host r ∙ ap (toldOn s) told) ∙ y .0 ∙ sym (ap lasting (stepped t w host r)),
       ap (λ (a : Answer). shown host (wordOf a)) (host-told s w r ∙ ap (λ (z : Told). toldSaid (toldOn s z) z) told)
-      ∙ y .1 ∙ sym (ap (λ (a : Answer). shown host (wordOf a)) (host-told t w r)),
+          ∙ y .1 ∙ sym (ap (λ (a : Answer). shown host (wordOf a)) (host-told t w r)),
     )
 
 -- ---- start slots
@@ -227,23 +257,29 @@ host-word s t w r e =
 begun : Lasting → State
 begun k =
     record {
-      core = record { regs = k .regs; frame = begunOf (takesPart (k .regs) (isEmpty (k .rbf))) (k .regs .long); idle = false };
+      core = record {
+        regs = k .regs;
+        frame = begunOf (takesPart (k .regs) (isEmpty (k .rbf)))
+            (k .regs .long);
+        idle = false;
+      };
       tbf = k .tbf;
       rbf = k .rbf;
     }
 
 start-stepped : (s : State) (w : ℕ) → classOf w ≡ slot Start → waiting s → stepOf s w ≡ begun (lasting s)
-unfolding slotOn onStart begun tbfAfter rbfAfter
+unfolding slotOn onStart begun slots.begun tbfAfter rbfAfter
 start-stepped s w r e =
     stepped s w (slot Start) r
-    ∙ ap (λ (a : Acted). actedOn s (a ▹ acted·core (a .core ▹ core·frame (begunOf (takesPart (a .core .regs) (isEmpty (s .rbf))) (a .core .regs .long)) ▹ core·idle false)))
+    ∙ ap (λ (a : Acted). actedOn s (a ▹ acted·core (slots.begun (a .core) (isEmpty (s .rbf)))))
     (cut-waiting (s .core) e)
 
 start-said : (s : State) (w : ℕ) → classOf w ≡ slot Start → answerOf s w ≡ Given (Taken (driveOf (stepOf s w)))
 unfolding slotSaid
 start-said s w r = said s w (slot Start) r
 
-start-word : (s t : State) (w : ℕ) → classOf w ≡ slot Start → waiting s → waiting t → lasting s ≡ lasting t → s .core .regs .marq ≡ false
+start-word : (s t : State) (w : ℕ) → classOf w ≡ slot Start → waiting s → waiting t → lasting s ≡ lasting t
+    → s .core .regs .marq ≡ false
     → (stepOf s w ≡ stepOf t w) × (wordOf (answerOf s w) ≡ wordOf (answerOf t w))
     × ((d e : ℕ) → latest d (wordOf (answerOf s w)) ≡ latest e (wordOf (answerOf s w)))
 start-word s t w r ws wt e q =
@@ -251,29 +287,34 @@ start-word s t w r ws wt e q =
       same,
       ap wordOf (start-said s w r ∙ ap (λ (z : State). Given (Taken (driveOf z))) same ∙ sym (start-said t w r)),
       λ d n. ap (λ (a : Answer). latest d (wordOf a)) (start-said s w r) ∙ latest-taken d _ ∙ sym (latest-taken n _)
-      ∙ sym (ap (λ (a : Answer). latest n (wordOf a)) (start-said s w r)),
+          ∙ sym (ap (λ (a : Answer). latest n (wordOf a)) (start-said s w r)),
     )
 
 -- ---- a stranger's frame
 
 module _ (h : ℕ) where
-  calm-start-word : (s : State) (w : ℕ) (bs : List Bool) → classOf w ≡ slot Start → waiting s → s .core .regs .marq ≡ false
+  calm-start-word : (s : State) (w : ℕ) (bs : List Bool) → classOf w ≡ slot Start → waiting s
+      → s .core .regs .marq ≡ false
       → spells h 12 0 (drop 1 bs) ≡ false → Calm h (stepOf s w .core .frame) bs × (lasting (stepOf s w) ≡ lasting s)
   unfolding Calm begun begunOf
   calm-start-word s w bs r e q x = (
-    subst (λ (t : State). Calm h (t .core .frame) bs) (sym (start-stepped s w r e)) (no-part (s .core .regs) (isEmpty (s .rbf)) q, x),
+    subst (λ (t : State). Calm h (t .core .frame) bs) (sym (start-stepped s w r e))
+        (no-part (s .core .regs) (isEmpty (s .rbf)) q, x),
     ap lasting (start-stepped s w r e),
   )
 
   -- it drives 1 up to the master address
-  drive-broadcast : (s : State) (n : ℕ) → s .core .frame .spot .place ≡ In Broadcast n → s .core .frame .leads ≡ false → driveOf s ≡ 1
+  drive-broadcast : (s : State) (n : ℕ) → s .core .frame .spot .place ≡ In Broadcast n → s .core .frame .leads ≡ false
+      → driveOf s ≡ 1
   unfolding driveOf coreDrive drive.driveOf drive.driveIn
   drive-broadcast s n e l =
       let view = viewOf (s .core .regs) (isEmpty (s .rbf)) in
       ap (λ (p : Place). driveAt p (s .core) (isEmpty (s .rbf))) e
-      ∙ ap (λ (p : Place). bitOf (drive.driveAt (s .core .frame) p view)) e ∙ ap (λ (leads : Bool). bitOf (not leads || view .bit)) l
+      ∙ ap (λ (p : Place). bitOf (drive.driveAt (s .core .frame) p view)) e
+      ∙ ap (λ (leads : Bool). bitOf (not leads || view .bit)) l
 
-  drive-master : (s : State) (n : ℕ) → s .core .frame .spot .place ≡ In Master n → s .core .frame .leads ≡ false → driveOf s ≡ 1
+  drive-master : (s : State) (n : ℕ) → s .core .frame .spot .place ≡ In Master n → s .core .frame .leads ≡ false
+      → driveOf s ≡ 1
   unfolding driveOf coreDrive drive.driveOf drive.driveIn
   drive-master s n e l =
       let view = viewOf (s .core .regs) (isEmpty (s .rbf)) in
@@ -282,11 +323,13 @@ module _ (h : ℕ) where
       ∙ ap bitOf (pick-no (s .core .frame .leads) (drive.sentOf 12 (view .own) n) true l)
 
   -- a level that is refused: the unit drives 0, so the address lies behind
-  refused-calm : (s : State) (b : Bool) (bs : List Bool) → clashes s b ≡ true → Calm h (s .core .frame) (b ∷ bs) → Calm h (s .core .frame) bs
+  refused-calm : (s : State) (b : Bool) (bs : List Bool) → clashes s b ≡ true → Calm h (s .core .frame) (b ∷ bs)
+      → Calm h (s .core .frame) bs
   unfolding Calm
   refused-calm s b bs e x = go (s .core .frame .spot .place) refl x
     where
-      go : (p : Place) → s .core .frame .spot .place ≡ p → CalmAt h p (s .core .frame) (b ∷ bs) → CalmAt h p (s .core .frame) bs
+      go : (p : Place) → s .core .frame .spot .place ≡ p → CalmAt h p (s .core .frame) (b ∷ bs)
+          → CalmAt h p (s .core .frame) bs
       go Waiting q y = tt
       go (In Broadcast n) q y = absurd (subst T (sym e ∙ no-refusal s b (drive-broadcast s n q (y .0))) tt)
       go (In Master n) q y = absurd (subst T (sym e ∙ no-refusal s b (drive-master s n q (y .0))) tt)
@@ -295,32 +338,39 @@ module _ (h : ℕ) where
       go (In Length n) q y = y
       go (In Data n) q y = y
 
-  calm-level-word : (s : State) (w : ℕ) (b : Bool) (bs : List Bool) → classOf w ≡ slot (Level b) → Calm h (s .core .frame) (b ∷ bs)
+  calm-level-word : (s : State) (w : ℕ) (b : Bool) (bs : List Bool) → classOf w ≡ slot (Level b)
+      → Calm h (s .core .frame) (b ∷ bs)
       → (s .core .regs .locked ≡ true) × (s .core .regs .holder ≡ h)
       → Calm h (stepOf s w .core .frame) bs × (lasting (stepOf s w) ≡ lasting s)
   unfolding slotOn onLevel
   calm-level-word s w b bs r x l =
-      subst (λ (t : State). Calm h (t .core .frame) bs × (lasting t ≡ lasting s)) (sym (stepped s w (slot (Level b)) r))
+      subst (λ (t : State). Calm h (t .core .frame) bs × (lasting t ≡ lasting s))
+      (sym (stepped s w (slot (Level b)) r))
       (pick-ind (λ (t : State). Calm h (t .core .frame) bs × (lasting t ≡ lasting s)) (clashes s b) s _
       (λ e. (refused-calm s b bs e x, refl))
       (λ e.
-        let seen = seenOf (s .tbf) (s .rbf) in
-        let y = on-level h (core·idle false (s .core)) seen b bs (viewOf (s .core .regs) (seen .clear)) (l .0) (l .1) x in
-        (y .calm, after-same (onLevel (s .core) b seen) s (y .regs) (y .act))))
+      let seen = seenOf (s .tbf) (s .rbf) in
+      let y = on-level h (core·idle false (s .core)) seen b bs (viewOf (s .core .regs) (seen .clear)) (l .0)
+      (l .1) x in
+      (y .calm, after-same (onLevel (s .core) b seen) s (y .regs) (y .act))))
 
-  calm-idle-word : (s : State) (w : ℕ) → classOf w ≡ slot Idle → Calm h (s .core .frame) [] → lasting (stepOf s w) ≡ lasting s
+  calm-idle-word : (s : State) (w : ℕ) → classOf w ≡ slot Idle → Calm h (s .core .frame) []
+      → lasting (stepOf s w) ≡ lasting s
   calm-idle-word s w r x = let y = cut-calm h (s .core) [] x in idle-keeps s w r (y .0) (y .1)
 
-  told-calm : (y : Told) (s : State) (bs : List Bool) → Calm h (s .core .frame) bs → Calm h (toldOn s y .core .frame) bs
+  told-calm : (y : Told) (s : State) (bs : List Bool) → Calm h (s .core .frame) bs
+      → Calm h (toldOn s y .core .frame) bs
   unfolding Calm
   told-calm (wrote r tbf) s bs x = x
   told-calm restarted s bs x = tt
   told-calm (gave rbf v) s bs x = x
   told-calm (denied n) s bs x = x
 
-  calm-host-word : (s : State) (w : ℕ) (bs : List Bool) → classOf w ≡ host → Calm h (s .core .frame) bs → Calm h (stepOf s w .core .frame) bs
+  calm-host-word : (s : State) (w : ℕ) (bs : List Bool) → classOf w ≡ host → Calm h (s .core .frame) bs
+      → Calm h (stepOf s w .core .frame) bs
   calm-host-word s w bs r x =
-      subst (λ (t : State). Calm h (t .core .frame) bs) (sym (stepped s w host r)) (told-calm (toldOf (s .core .regs) (s .tbf) (s .rbf) w) s bs x)
+      subst (λ (t : State). Calm h (t .core .frame) bs) (sym (stepped s w host r))
+      (told-calm (toldOf (s .core .regs) (s .tbf) (s .rbf) w) s bs x)
 
   -- ---- all conditions together
 

@@ -1,4 +1,5 @@
--- One level of a stranger's frame at a locked unit: nothing that lasts is changed, and the frame goes on as a stranger's.
+-- One level of a stranger's frame at a locked unit: nothing that lasts is changed, and the frame goes on as a
+-- stranger's.
 use mathlib.Core.Bool.{Bool, true, false, not, _&&_, _||_, Bool·beq}
 use mathlib.Core.Path.{_≡_, refl, sym, ap, ap₂, _∙_, subst}
 use mathlib.Core.List.{List, [], _∷_}
@@ -16,9 +17,12 @@ use Rattle.frame.specs.Slaves.{acceptedOf, addressedOf, byValue, controlOf, ope
 use Rattle.frame.specs.Masters.{clashOf, ownBit}
 use Rattle.frame.specs.Drive.{driveOf}
 use Rattle.frame.specs.Set.{frame·broadcast, frame·byte}
-use Rattle.frame.specs.Step.{moved, oneBit, goOn, afterAck, headerAck, textAck, atBroadcast, masterOf, atMaster, withSlave}
-use Rattle.frame.specs.Step.{slaveJudged, atSlave, withControl, controlJudged, atControl, lengthJudged, atLength, withAck}
-use Rattle.frame.specs.Step.{dataJudged, countedOf, ackedOf, lastOf, wholeOf, endsOf, againOf, dataAcked, atData, atField}
+use Rattle.frame.specs.Step.{moved, oneBit, goOn, afterAck, headerAck, textAck, atBroadcast, masterOf, atMaster}
+use Rattle.frame.specs.Step.{withSlave}
+use Rattle.frame.specs.Step.{slaveJudged, atSlave, withControl, controlJudged, atControl, lengthJudged, atLength}
+use Rattle.frame.specs.Step.{withAck}
+use Rattle.frame.specs.Step.{dataJudged, countedOf, ackedOf, lastOf, wholeOf, endsOf, againOf, dataAcked, atData}
+use Rattle.frame.specs.Step.{atField}
 use Rattle.frame.specs.Step.{overruledOf, inField, atPlace, levelOf}
 use Rattle.frame.specs.declared.judging.Judged.the-variants.{Nak}
 use Rattle.frame.specs.declared.place.Event.the-variants.{Nothing as Quiet, Addressed, ControlAcked, LengthAcked}
@@ -33,12 +37,14 @@ use Rattle.frame.specs.declared.place.View.{View}
 use Rattle.isolation.specs.Words.{spells}
 use Rattle.unit.specs.Set.{core·frame}
 use Rattle.unit.specs.Endings.{acted, draws, endedOf, leftOf}
-use Rattle.unit.specs.Slots.{onAddressed, onControlAcked, onLengthAcked, onByteAcked, lastAcked, onEvent, onMoved}
+use Rattle.unit.specs.Slots.{onAddressed, onControlAcked, onLengthAcked, onByteAcked, lastAcked, onEvent}
+use Rattle.unit.specs.Slots.{onMoved}
 use Rattle.unit.specs.declared.state.Act.the-variants.{Nothing}
 use Rattle.unit.specs.declared.state.Acted.{Acted}
 use Rattle.unit.specs.declared.state.Core.{Core}
 use Rattle.unit.specs.declared.state.Seen.{Seen}
-use Rattle.unit.proofs.Calm.{pick-ind, pick-yes, pick-no, Harmless, CalmAt, Calm, calm-ended, open-reads, harmless-draws}
+use Rattle.unit.proofs.Calm.{pick-ind, pick-yes, pick-no, Harmless, CalmAt, Calm, calm-ended, open-reads}
+use Rattle.unit.proofs.Calm.{harmless-draws}
 
 -- what lasts is as it was, nothing is done to the buffers, and the frame is still another's than h
 pub record Unmoved (h : ℕ) (c : Core) (a : Acted) (bs : List Bool) : Type 0 where
@@ -62,7 +68,8 @@ module _ (h : ℕ) (c : Core) (seen : Seen) (bs : List Bool) where
   addressed : (f : Frame) → f .leads ≡ false → Calm h f bs → Leaves (moved Addressed f)
   unfolding Leaves onEvent onAddressed
   addressed f l x =
-      same _ f (ap (acted Nothing) (pick-no (f .leads && writesOf (c .regs .control)) _ _ (ap (λ (b : Bool). b && writesOf (c .regs .control)) l))) x
+      same _ f (ap (acted Nothing) (pick-no (f .leads && writesOf (c .regs .control)) _ _
+      (ap (λ (b : Bool). b && writesOf (c .regs .control)) l))) x
 
   module _ (f : Frame) (s : Harmless f) where
     control-acked : Calm h (withLength f 1) bs → Leaves (moved ControlAcked f)
@@ -77,7 +84,8 @@ module _ (h : ℕ) (c : Core) (seen : Seen) (bs : List Bool) where
     unfolding Leaves onEvent onByteAcked
     byte-acked x = same _ f (pick-no _ _ _ (harmless-draws s) ∙ pick-yes _ _ _ (s .sends)) x
 
-  module _ (field : Field) (n : ℕ) (e : c .frame .spot .place ≡ In field n) (b : Bool) (x : CalmAt h (In field n) (c .frame) (b ∷ bs)) where
+  module _ (field : Field) (n : ℕ) (e : c .frame .spot .place ≡ In field n) (b : Bool)
+      (x : CalmAt h (In field n) (c .frame) (b ∷ bs)) where
     -- the unit's part ends
     ended : (whole : Bool) (f : Frame) → Calm h f bs → Unmoved h c (leftOf (endedOf c whole) f) bs
     unfolding leftOf
@@ -95,7 +103,8 @@ module _ (h : ℕ) (c : Core) (seen : Seen) (bs : List Bool) where
     gone-on f goes y = pick-ind Leaves goes _ _ (λ t. quiet (nextOf f field n) (y t)) (λ t. aborted f)
 
     -- after A of a header field: the next field, or a NAK
-    after-quiet : (f : Frame) (acked : Bool) (next : Field) → Calm h (toField f next) bs → Leaves (afterAck f acked next Quiet)
+    after-quiet : (f : Frame) (acked : Bool) (next : Field) → Calm h (toField f next) bs
+        → Leaves (afterAck f acked next Quiet)
     unfolding afterAck
     after-quiet f acked next y = pick-ind Leaves acked _ _ (λ t. quiet (toField f next) y) (λ t. aborted f)
 
@@ -140,12 +149,17 @@ module _ (h : ℕ) (c : Core) (seen : Seen) (b : Bool) (bs : List Bool) (n : ℕ
   on-master e x =
       pick-ind (Leaves h c seen bs) (ltb n 12) _ _
       (λ t.
-        let l = ltb-true n 12 t in
-        quiet h c seen bs (shiftedOf (c .frame) Master n b)
-        (x .0, omega arith, shifted-lt n (c .frame .shift) b l (x .2), spells-next h n (c .frame .shift) b bs l (x .2) (x .3)))
+      let l = ltb-true n 12 t in
+      quiet h c seen bs (shiftedOf (c .frame) Master n b) (
+        x .0,
+        omega arith,
+        shifted-lt n (c .frame .shift) b l (x .2),
+        spells-next h n (c .frame .shift) b bs l (x .2)
+            (x .3),
+      ))
       (λ t.
-        addressed h c seen bs (masterOf (c .frame) (parityHolds (c .frame .shift) b)) (x .0)
-        (x .0, spells-all h n (c .frame .shift) (b ∷ bs) (x .1) (ltb-false n 12 t) (x .3)))
+      addressed h c seen bs (masterOf (c .frame) (parityHolds (c .frame .shift) b)) (x .0)
+      (x .0, spells-all h n (c .frame .shift) (b ∷ bs) (x .1) (ltb-false n 12 t) (x .3)))
 
   on-slave : (own : ℕ) → c .frame .spot .place ≡ In Slave n → CalmAt h (In Slave n) (c .frame) (b ∷ bs)
       → Leaves h c seen bs (atSlave (c .frame) n b own)
@@ -153,8 +167,9 @@ module _ (h : ℕ) (c : Core) (seen : Seen) (b : Bool) (bs : List Bool) (n : ℕ
   on-slave own e x =
       pick-ind (Leaves h c seen bs) (ltb n 12) _ _ (λ t. quiet h c seen bs (shiftedOf (c .frame) Slave n b) x)
       (λ t. pick-ind (Leaves h c seen bs) (eqb n 12) _ _
-        (λ y. gone-on h c seen bs Slave n e b x _ _ (λ z. x))
-        (λ y. after-quiet h c seen bs Slave n e b x (c .frame) (headerAck (c .frame) b) Control (x .0, x .1, λ l. absurd (omega arith))))
+      (λ y. gone-on h c seen bs Slave n e b x _ _ (λ z. x))
+      (λ y. after-quiet h c seen bs Slave n e b x (c .frame) (headerAck (c .frame) b) Control
+      (x .0, x .1, λ l. absurd (omega arith))))
 
 -- ---- what is harmless stays so
 
@@ -191,7 +206,12 @@ harmless-acked s = record { follows = s .follows; sends = s .sends; open-control
 pub judged-harmless : (f : Frame) (control : ℕ) (ack : Bool) → f .leads ≡ false → openTo control ≡ true
     → Harmless (withControl f control ack (Bool·beq (f .leads) (writesOf control)))
 unfolding withControl
-judged-harmless f control ack l o = record { follows = l; sends = ap₂ Bool·beq l (open-reads control o); open-control = o }
+judged-harmless f control ack l o = record {
+  follows = l;
+  sends = ap₂ Bool·beq l
+      (open-reads control o);
+  open-control = o;
+}
 
 -- "Locked, another master gets NAK for all but 0H, 4H, 5H": what a locked unit accepts of a stranger
 pub accepted-open : (control : ℕ) (strange strq ready locked held broadcast : Bool) → strange ≡ true
@@ -199,7 +219,8 @@ pub accepted-open : (control : ℕ) (strange strq ready locked held broadcast : 
 unfolding acceptedOf controlOf
 accepted-open control strange strq ready locked held broadcast s e = go held (openTo control) (rw s at e)
   where
-    go : (held free : Bool) → (held && acceptedOf (pick (true && not free) Nak (byValue control strq ready locked)) broadcast) ≡ true
+    go : (held free : Bool) → (held && acceptedOf (pick (true && not free) Nak (byValue control strq ready locked))
+        broadcast) ≡ true
         → free ≡ true
     go held true e = refl
     go true false e = e
@@ -219,26 +240,30 @@ module _ (h : ℕ) (c : Core) (seen : Seen) (b : Bool) (bs : List Bool) (n : ℕ
       let f = c .frame in
       let control = f .shift % 16 in
       let strange = strangerOf v (f .master) in
-      let ack = parityHolds (f .shift) b && acceptedOf (controlOf control strange (v .strq) (v .ready) (v .locked)) (f .broadcast) in
-      gone-on h c seen bs Control n e b x (withControl f control ack (Bool·beq (f .leads) (writesOf control))) (f .leads || ack)
+      let ack = parityHolds (f .shift) b && acceptedOf (controlOf control strange (v .strq) (v .ready) (v .locked))
+      (f .broadcast) in
+      gone-on h c seen bs Control n e b x (withControl f control ack (Bool·beq (f .leads) (writesOf control)))
+      (f .leads || ack)
       (λ z.
-        let goes : ack ≡ true = subst (λ (leads : Bool). (leads || ack) ≡ true) (x .0) z in
-        let open-control
-              = accepted-open control strange (v .strq) (v .ready) (v .locked) (parityHolds (f .shift) b) (f .broadcast) (stranger v l o (x .1)) goes in
-        (x .0, x .1, λ past. harmless-next Control n (judged-harmless f control ack (x .0) open-control)))
+      let goes : ack ≡ true = subst (λ (leads : Bool). (leads || ack) ≡ true) (x .0) z in
+      let open-control
+      = accepted-open control strange (v .strq) (v .ready) (v .locked) (parityHolds (f .shift) b)
+      (f .broadcast) (stranger v l o (x .1)) goes in
+      (x .0, x .1, λ past. harmless-next Control n (judged-harmless f control ack (x .0) open-control)))
 
   on-control : (v : View) → v .locked ≡ true → v .holder ≡ h → c .frame .spot .place ≡ In Control n
       → CalmAt h (In Control n) (c .frame) (b ∷ bs) → Leaves h c seen bs (atControl (c .frame) n b v)
   unfolding atControl shiftedOf nextOf toField afterAck Calm withLength
   on-control v l o e x =
       pick-ind (Leaves h c seen bs) (ltb n 4) _ _
-      (λ t. quiet h c seen bs (shiftedOf (c .frame) Control n b) (x .0, x .1, λ past. absurd (omega (arith, ltb-true n 4 t))))
+      (λ t. quiet h c seen bs (shiftedOf (c .frame) Control n b)
+      (x .0, x .1, λ past. absurd (omega (arith, ltb-true n 4 t))))
       (λ t. pick-ind (Leaves h c seen bs) (eqb n 4) _ _ (λ y. on-judged v l o e x)
-        (λ y. pick-ind (Leaves h c seen bs) (headerAck (c .frame) b) _ _
-          (λ z.
-            let s = harmless-to Length (x .2 (omega (arith, ltb-false n 4 t, eqb-false n 4 y))) in
-            control-acked h c seen bs (toField (c .frame) Length) s (harmless-length s))
-          (λ z. aborted h c seen bs Control n e b x (c .frame))))
+      (λ y. pick-ind (Leaves h c seen bs) (headerAck (c .frame) b) _ _
+      (λ z.
+      let s = harmless-to Length (x .2 (omega (arith, ltb-false n 4 t, eqb-false n 4 y))) in
+      control-acked h c seen bs (toField (c .frame) Length) s (harmless-length s))
+      (λ z. aborted h c seen bs Control n e b x (c .frame))))
 
 -- ---- length and data
 
@@ -249,38 +274,45 @@ module _ (h : ℕ) (c : Core) (seen : Seen) (b : Bool) (bs : List Bool) (n : ℕ
       pick-ind (Leaves h c seen bs) (ltb n 8) _ _
       (λ t. quiet h c seen bs (shiftedOf (c .frame) Length n b) (harmless-shifted Length n b s))
       (λ t. pick-ind (Leaves h c seen bs) (eqb n 8) _ _
-        (λ y. subst (Leaves h c seen bs) (sym (pick-yes _ _ _ (s .sends))) (gone-on h c seen bs Length n e b s (c .frame) true (λ z. harmless-next Length n s)))
-        (λ y. pick-ind (Leaves h c seen bs) (textAck (c .frame) b) _ _
-          (λ z. length-acked h c seen bs (toField (c .frame) Data) (harmless-to Data s) (λ byte. harmless-byte byte (harmless-to Data s)))
-          (λ z. aborted h c seen bs Length n e b s (c .frame))))
+      (λ y. subst (Leaves h c seen bs) (sym (pick-yes _ _ _ (s .sends)))
+      (gone-on h c seen bs Length n e b s (c .frame) true (λ z. harmless-next Length n s)))
+      (λ y. pick-ind (Leaves h c seen bs) (textAck (c .frame) b) _ _
+      (λ z. length-acked h c seen bs (toField (c .frame) Data) (harmless-to Data s)
+      (λ byte. harmless-byte byte (harmless-to Data s)))
+      (λ z. aborted h c seen bs Length n e b s (c .frame))))
 
   -- the last byte, or a byte in the last attempt
   on-last : c .frame .spot .place ≡ In Data n → (whole : Bool) (f : Frame) → Calm h f bs
       → Unmoved h c (leftOf (lastAcked c (c .frame .shift % 256) whole) f) bs
   unfolding lastAcked
   on-last e whole f y =
-      subst (λ (a : Acted). Unmoved h c (leftOf a f) bs) (sym (pick-yes _ _ _ (s .sends))) (ended h c seen bs Data n e b s whole f y)
+      subst (λ (a : Acted). Unmoved h c (leftOf a f) bs) (sym (pick-yes _ _ _ (s .sends)))
+      (ended h c seen bs Data n e b s whole f y)
 
   on-data : c .frame .spot .place ≡ In Data n → Leaves h c seen bs (atData (c .frame) n b)
-  unfolding atData dataJudged dataAcked endsOf againOf shiftedOf nextOf toField doneOf ackedOf countedOf Calm Leaves onEvent
+  unfolding atData dataJudged dataAcked endsOf againOf shiftedOf nextOf toField doneOf ackedOf countedOf Calm Leaves
+      onEvent
   on-data e =
       pick-ind (Leaves h c seen bs) (ltb n 8) _ _
       (λ t. quiet h c seen bs (shiftedOf (c .frame) Data n b) (harmless-shifted Data n b s))
       (λ t. pick-ind (Leaves h c seen bs) (eqb n 8) _ _
-        (λ y. subst (Leaves h c seen bs) (sym (pick-yes _ _ _ (s .sends))) (gone-on h c seen bs Data n e b s (c .frame) true (λ z. harmless-next Data n s)))
-        (λ y. pick-ind (Leaves h c seen bs) (textAck (c .frame) b) _ _
-          (λ z. pick-ind (Leaves h c seen bs) (wholeOf (c .frame)) _ _
-            (λ q. on-last e true (doneOf (ackedOf (countedOf (c .frame)))) tt)
-            (λ q. pick-ind (Leaves h c seen bs) (lastOf (c .frame)) _ _
-              (λ r. on-last e false (doneOf (ackedOf (countedOf (c .frame)))) tt)
-              (λ r. byte-acked h c seen bs (toField (ackedOf (countedOf (c .frame))) Data) (harmless-to Data (harmless-acked s)) (harmless-to Data (harmless-acked s)))))
-          (λ z. pick-ind (Leaves h c seen bs) (lastOf (c .frame)) _ _
-            (λ q. aborted h c seen bs Data n e b s (countedOf (c .frame)))
-            (λ q. quiet h c seen bs (toField (countedOf (c .frame)) Data) (harmless-to Data (harmless-counted s))))))
+      (λ y. subst (Leaves h c seen bs) (sym (pick-yes _ _ _ (s .sends)))
+      (gone-on h c seen bs Data n e b s (c .frame) true (λ z. harmless-next Data n s)))
+      (λ y. pick-ind (Leaves h c seen bs) (textAck (c .frame) b) _ _
+      (λ z. pick-ind (Leaves h c seen bs) (wholeOf (c .frame)) _ _
+      (λ q. on-last e true (doneOf (ackedOf (countedOf (c .frame)))) tt)
+      (λ q. pick-ind (Leaves h c seen bs) (lastOf (c .frame)) _ _
+      (λ r. on-last e false (doneOf (ackedOf (countedOf (c .frame)))) tt)
+      (λ r. byte-acked h c seen bs (toField (ackedOf (countedOf (c .frame))) Data)
+      (harmless-to Data (harmless-acked s)) (harmless-to Data (harmless-acked s)))))
+      (λ z. pick-ind (Leaves h c seen bs) (lastOf (c .frame)) _ _
+      (λ q. aborted h c seen bs Data n e b s (countedOf (c .frame)))
+      (λ q. quiet h c seen bs (toField (countedOf (c .frame)) Data) (harmless-to Data (harmless-counted s))))))
 
 -- ---- any place
 
-module _ (h : ℕ) (c : Core) (seen : Seen) (b : Bool) (bs : List Bool) (v : View) (l : v .locked ≡ true) (o : v .holder ≡ h) where
+module _ (h : ℕ) (c : Core) (seen : Seen) (b : Bool) (bs : List Bool) (v : View) (l : v .locked ≡ true)
+    (o : v .holder ≡ h) where
   on-field : (field : Field) (n : ℕ) → c .frame .spot .place ≡ In field n → CalmAt h (In field n) (c .frame) (b ∷ bs)
       → Leaves h c seen bs (atField (c .frame) field n b v)
   unfolding atField
@@ -309,7 +341,8 @@ module _ (h : ℕ) (c : Core) (seen : Seen) (b : Bool) (bs : List Bool) (v : Vie
   unfolding inField Calm
   on-place Waiting e x = quiet h c seen bs (c .frame) (subst (λ (p : Place). CalmAt h p (c .frame) bs) (sym e) tt)
   on-place (In field n) e x =
-      subst (Leaves h c seen bs) (sym (pick-no (clashOf (c .frame) field n b v) _ _ (no-clash field n (follows field n x)))) (on-field field n e x)
+      subst (Leaves h c seen bs) (sym (pick-no (clashOf (c .frame) field n b v) _ _
+      (no-clash field n (follows field n x)))) (on-field field n e x)
 
   pub on-level : Calm h (c .frame) (b ∷ bs) → Unmoved h c (onMoved c (levelOf (c .frame) b v) seen) bs
   unfolding levelOf Calm Leaves

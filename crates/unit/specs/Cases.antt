@@ -55,7 +55,8 @@ exchange master slave control length text =
 abbrev pub setUp : List ℕ
 setUp = write 0x2 0x32 ∷ write 0x3 0x12 ∷ []
 
--- what is seen after some words: MARC, SLRC, MARQ, STRQ, SLRE, whether locked and to whom, RDR1 and RDR2; then the buffers
+-- what is seen after some words: MARC, SLRC, MARQ, STRQ, SLRE, whether locked and to whom, RDR1 and RDR2; then the
+-- buffers
 abbrev pub seenAfter : State → List ℕ
 seenAfter s =
     s .core .regs .marc ∷ s .core .regs .slrc ∷ bitOf (s .core .regs .marq) ∷ bitOf (s .core .regs .strq)
@@ -77,15 +78,18 @@ reception = setUp ++ write 0x0 0x10 ∷ 3 ∷ exchange 0x525 0x123 0xF 2 (0xA5 �
 -- a master write of two bytes to 456H
 abbrev pub masterWrite : List ℕ
 masterWrite =
-    setUp ++ write 0x4 0x60 ∷ write 0x5 0x45 ∷ write 0x6 0x8F ∷ write 0xE 2 ∷ write 0xE 0xAA ∷ write 0xE 0xBB ∷ write 0x1 0x08 ∷ 3
+    setUp ++ write 0x4 0x60 ∷ write 0x5 0x45 ∷ write 0x6 0x8F ∷ write 0xE 2 ∷ write 0xE 0xAA ∷ write 0xE 0xBB
+    ∷ write 0x1 0x08 ∷ 3
     ∷ exchange 0x123 0x456 0xF 2 (0xAA ∷ 0xBB ∷ [])
 
 -- a master read of one byte from 456H, with 3H
 abbrev pub masterRead : List ℕ
 masterRead =
-    setUp ++ write 0x4 0x60 ∷ write 0x5 0x45 ∷ write 0x6 0x83 ∷ write 0x1 0x08 ∷ 3 ∷ exchange 0x123 0x456 0x3 1 (0x77 ∷ [])
+    setUp ++ write 0x4 0x60 ∷ write 0x5 0x45 ∷ write 0x6 0x83 ∷ write 0x1 0x08 ∷ 3
+    ∷ exchange 0x123 0x456 0x3 1 (0x77 ∷ [])
 
--- slave sending with 3H: the length says 3, one byte is there, so more is wanted when it is drawn, and it aborts at its ACK
+-- slave sending with 3H: the length says 3, one byte is there, so more is wanted when it is drawn, and it aborts at
+-- its ACK
 abbrev pub offered : List ℕ
 offered = setUp ++ write 0xE 3 ∷ write 0xE 0x11 ∷ write 0x1 0x0B ∷ 3 ∷ []
 
@@ -116,7 +120,8 @@ holder6 = stranger6 ++ exchange 0x525 0x123 0x6 1 (0x96 ∷ [])
 -- a request of 123H with one retry that loses against 023H, whose frame is for it
 abbrev pub loss : List ℕ
 loss =
-    setUp ++ write 0x0 0x10 ∷ write 0x4 0x60 ∷ write 0x5 0x45 ∷ write 0x6 0x9F ∷ write 0xE 1 ∷ write 0xE 0xAA ∷ write 0x1 0x08 ∷ 3
+    setUp ++ write 0x0 0x10 ∷ write 0x4 0x60 ∷ write 0x5 0x45 ∷ write 0x6 0x9F ∷ write 0xE 1 ∷ write 0xE 0xAA
+    ∷ write 0x1 0x08 ∷ 3
     ∷ exchange 0x023 0x123 0xF 1 (0x42 ∷ [])
 
 -- "master 525H, FH, length 2: RBF begins 52H 5FH 02H"; "status after reset 80H"; the listing's example; the stories
@@ -155,7 +160,8 @@ unfolding allGiven lineCases frameCases unitCases ones onesIn lossesOf lossOf se
     state.isEmpty state.pushOf state.tbfAfter state.rbfAfter state.takesPart state.statusByte state.ownByte
     endings.endCode endings.draws endings.ties endings.lockAfter endings.requestEnded endings.sendingEnded
     endings.receptionEnded endings.partEnded endings.dataEnded endings.lengthEnded endings.endedOf endings.leftOf
-    endings.cutOf slots.onStart slots.onIdle slots.onLost slots.onAddressed slots.withCode slots.sendingBegun
+    endings.cutOf slots.begun slots.onStart slots.onIdle slots.onLost slots.onAddressed slots.withCode
+    slots.sendingBegun
     slots.lengthDrawn slots.onControlAcked slots.wanted slots.byteDrawn slots.otherParty slots.headerOf
     slots.receptionCode slots.withCount slots.countOf slots.receptionBegun slots.onLengthAcked slots.counted
     slots.nextDrawn slots.onByteAcked slots.lastAcked slots.onEvent slots.onLevel slots.coreDrive

@@ -34,11 +34,11 @@ use Rattle.unit.specs.Endings.{acted, draws, requestEnded, endedOf, left
 
 -- "A start slot always begins a frame"; "any start slot lets it take part", from the state that the old frame's end
 -- left
+unfoldable pub begun : Core → Bool → Core
+begun c clear = c ▹ core·frame (begunOf (takesPart (c .regs) clear) (c .regs .long)) ▹ core·idle false
+
 unfoldable pub onStart : Core → Bool → Acted
-onStart c clear =
-    let a = cutOf c in
-    a ▹ acted·core (a .core ▹ core·frame (begunOf (takesPart (a .core .regs) clear) (a .core .regs .long)) ▹ core·idle
-    false)
+onStart c clear = let a = cutOf c in a ▹ acted·core (begun (a .core) clear)
 
 unfoldable pub onIdle : Core → Acted
 onIdle c = let a = cutOf c in a ▹ acted·core (a .core ▹ core·idle true)

@@ -1,0 +1,38 @@
+-- Document 01, "Words": "The same run from a reset unit is exported to the bench host, written in C, over byte
+-- slices, each
+-- word little-endian; it returns 0 or a refusal."
+use mathlib.Core.List.{List, [], _∷_, _++_}
+use Prim.Native.Nat.{ℕ, _+_, _*_, _/_, _%_}
+use lib.Dec.{eqb, ltb}
+use lib.ListN.{length, drop}
+use Rattle.line.specs.Choice.{pick}
+use Rattle.line.specs.Numbers.{refusedByteCount, refusedShortList}
+use Rattle.isolation.specs.Runs.{answers}
+use Rattle.unit.specs.Machine.{unit}
+use Rattle.unit.specs.State.{reset}
+
+-- the words that a list of bytes spells, the lowest byte first
+unfoldable pub wordsOf : List ℕ → List ℕ
+wordsOf [] = []
+wordsOf (a ∷ []) = []
+wordsOf (a ∷ b ∷ []) = []
+wordsOf (a ∷ b ∷ c ∷ []) = []
+wordsOf (a ∷ b ∷ c ∷ d ∷ rest) = (a + b * 0x100 + c * 0x1_0000 + d * 0x100_0000) ∷ wordsOf rest
+
+-- a word's bytes, and those of a list of words
+abbrev pub bytesOfWord : ℕ → List ℕ
+bytesOfWord w = w % 256 ∷ w / 0x100 % 256 ∷ w / 0x1_0000 % 256 ∷ w / 0x100_0000 % 256 ∷ []
+
+unfoldable pub bytesOf : List ℕ → List ℕ
+bytesOf [] = []
+bytesOf (w ∷ ws) = bytesOfWord w ++ bytesOf ws
+
+-- 11: "count not a multiple of 4"; 12: "answer .. list shorter than its input"; else 0
+unfoldable pub byteRefusal : List ℕ → List ℕ → ℕ
+byteRefusal words out =
+    pick (eqb (length words % 4) 0) (pick (ltb (length out) (length words)) refusedShortList 0) refusedByteCount
+
+-- the answer bytes afterwards
+unfoldable pub bytesAfter : List ℕ → List ℕ → List ℕ
+bytesAfter words out =
+    pick (eqb (byteRefusal words out) 0) (bytesOf (answers unit reset (wordsOf words)) ++ drop (length words) out) out
