@@ -30,11 +30,12 @@ use Rattle.frame.specs.declared.place.View.{View}
 abbrev pub field : ℕ → ℕ → List ℕ
 field width value = levelsOf width value ++ parityOf value ∷ []
 
--- a frame of 525H to 123H with FH, a length and so many attempts at one byte, every A a 0
+-- so many attempts at one byte, every A a 0
 abbrev pub attemptsOf : ℕ → List ℕ
 attemptsOf zero = []
 attemptsOf (suc n) = (field 8 0x35 ++ 0 ∷ []) ++ attemptsOf n
 
+-- a frame of 525H to 123H with FH, a length and so many attempts
 abbrev pub frameOf : ℕ → ℕ → List ℕ
 frameOf length n =
     1 ∷ field 12 0x525 ++ (field 12 0x123 ++ 0 ∷ []) ++ (field 4 0xF ++ 0 ∷ []) ++

@@ -1,5 +1,5 @@
 -- What a unit drives in the next slot inside a frame, as a level.
-use Prim.Native.Nat.{ℕ, _-_}
+use Prim.Native.Nat.{ℕ, _-_, _%_}
 use mathlib.Core.Bool.{Bool, true, false, not, _||_}
 use lib.Dec.{eqb, ltb, leb}
 use Rattle.line.specs.Choice.{pick}
@@ -21,12 +21,13 @@ sentOf width value n =
 unfoldable pub answerOf : Frame → ℕ → ℕ → Bool
 answerOf f width n = leb n width || not (f .ack) || f .broadcast
 
--- the header is sent by the master, the length and the data by whoever sends
+-- the header is sent by the master, each field cut to its width, the length and the data by whoever sends
 unfoldable pub driveIn : Frame → Field → ℕ → View → Bool
 driveIn f Broadcast n v = not (f .leads) || v .bit
-driveIn f Master n v = pick (f .leads) (sentOf (widthOf Master) (v .own) n) true
-driveIn f Slave n v = pick (f .leads) (sentOf (widthOf Slave) (v .slave) n) (answerOf f (widthOf Slave) n)
-driveIn f Control n v = pick (f .leads) (sentOf (widthOf Control) (v .control) n) (answerOf f (widthOf Control) n)
+driveIn f Master n v = pick (f .leads) (sentOf (widthOf Master) (v .own % 4096) n) true
+driveIn f Slave n v = pick (f .leads) (sentOf (widthOf Slave) (v .slave % 4096) n) (answerOf f (widthOf Slave) n)
+driveIn f Control n v = pick (f .leads) (sentOf (widthOf Control) (v .control % 16) n)
+    (answerOf f (widthOf Control) n)
 driveIn f Length n v = pick (f .sends) (sentOf (widthOf Length) (f .byte) n) (answerOf f (widthOf Length) n)
 driveIn f Data n v = pick (f .sends) (sentOf (widthOf Data) (f .byte) n) (answerOf f (widthOf Data) n)
 

@@ -36,19 +36,19 @@ fn drive_in(frame: Frame, field: Field, n: u8, view: View) -> bool
         Field::Broadcast => !frame.leads | view.bit,
         Field::Master => {
             if frame.leads {
-                return sent(12, view.own, n);
+                return sent(12, view.own % 4096, n);
             }
             true
         }
         Field::Slave => {
             if frame.leads {
-                return sent(12, view.slave, n);
+                return sent(12, view.slave % 4096, n);
             }
             answer(frame, 12, n)
         }
         Field::Control => {
             if frame.leads {
-                return sent(4, view.control as u16, n);
+                return sent(4, view.control as u16 % 16, n);
             }
             answer(frame, 4, n)
         }

@@ -86,7 +86,7 @@ pub enum Event {
     AllAcked,
     // a byte is ACKed in the frame's last attempt, not the last byte, and the frame ends
     ShortAcked,
-    // the frame ends before all bytes are ACKed, with none ACKed in this slot
+    // the unit's part in the frame ends before all bytes are ACKed, with none ACKed in this slot
     Aborted,
 }
 

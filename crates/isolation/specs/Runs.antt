@@ -74,7 +74,7 @@ module _ (M : Machine) where
 
   -- "Both begin in one state, waiting for a start .. with an idle slot between any two starts"; "the words kept are
   -- one and
-  -- the same list"
+  -- the same list". That the unit is locked, and asks for nothing, is in `Compared`
   pub record Given (h : ℕ) (s : M .State) (A B : List ℕ) : Type 0 where
     pub waits : M .waiting s
     pub spaced-first : spaced false (map classOf A) ≡ true

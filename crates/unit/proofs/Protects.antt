@@ -320,7 +320,7 @@ module _ (h : ℕ) where
       let view = viewOf (s .core .regs) (isEmpty (s .rbf)) in
       ap (λ (p : Place). driveAt p (s .core) (isEmpty (s .rbf))) e
       ∙ ap (λ (p : Place). bitOf (drive.driveAt (s .core .frame) p view)) e
-      ∙ ap bitOf (pick-no (s .core .frame .leads) (drive.sentOf 12 (view .own) n) true l)
+      ∙ ap bitOf (pick-no (s .core .frame .leads) (drive.sentOf 12 (view .own % 4096) n) true l)
 
   -- a level that is refused: the unit drives 0, so the address lies behind
   refused-calm : (s : State) (b : Bool) (bs : List Bool) → clashes s b ≡ true → Calm h (s .core .frame) (b ∷ bs)

@@ -32,13 +32,14 @@ cmrRefusal r waiting v =
     (pick ((eqb v 0x08 && writesOf (r .control) || eqb v 0x0B) && ltb waiting 2) refusedTooFew
     (pick (eqb v 0x08 && r .bit && eqb (r .slave) (r .own) || eqb v 0x0B && not (r .enabled)) refusedUnable 0)))
 
--- "UAR1 (own address low 4 bits, then 0, 0, sending enabled, mode). UAR2 (high 8)": "UAR with MARQ, STRQ, SLRE or
+-- "UAR1 (own address low 4 bits, then 0, 0, sending enabled, mode). .. UAR2 (high 8)": "UAR with MARQ, STRQ, SLRE or
 -- locked"
 unfoldable pub uarRefusal : Registers → Bool → ℕ
 uarRefusal r listed =
     pick (not listed) refusedValue (pick (r .marq || r .strq || r .slre || r .locked) refusedOutOfTurn 0)
 
--- "SAR1 (slave low 4, then 0000). SAR2"; "MCR (broadcast bit as on the wire, retries 0 to 7, control)": "with MARQ"
+-- "SAR1 (slave low 4, then 0000). .. SAR2"; "MCR (broadcast bit as on the wire, retries 0 to 7, control)": "with
+-- MARQ"
 unfoldable pub requestRefusal : Registers → Bool → ℕ
 requestRefusal r listed = pick (not listed) refusedValue (pick (r .marq) refusedOutOfTurn 0)
 
@@ -65,7 +66,8 @@ writeRefusal r waiting register v =
 
 -- ---- writes: what is done
 
--- "(.. copy the lock into LOR, zeros if unlocked)"; "LOR1 (low 8), LOR2 (high half 0001 if locked; low half address
+-- "(.. copy the lock into LOR, zeros if unlocked)"; "LOR1 (low 8), .. LOR2 (high half 0001 if locked; low half
+-- address
 -- high 4)"
 unfoldable pub lorCopied : Registers → Registers
 lorCopied r =

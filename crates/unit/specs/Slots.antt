@@ -140,7 +140,7 @@ lastAcked c byte whole =
 
 -- ---- a level
 
--- what an event brings about: c is the unit before the slot, f the frame after it
+-- what an event brings about: c is the unit before the slot but for the latest slot, f the frame after it
 unfoldable pub onEvent : Event → Core → Frame → Seen → Acted
 onEvent Quiet c f seen = acted Nothing (c ▹ core·frame f)
 onEvent Lost c f seen = onLost (c ▹ core·frame f)

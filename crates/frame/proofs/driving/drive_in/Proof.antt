@@ -13,17 +13,17 @@ drive-in-spec =
     (λ c κs. search needs)
     (λ c. simp (
       c .sent .ensures,
-      c .before .if1 .taken,
-      c .before .before .enum-told2 .given .1,
-      c .before .before .before .match .keys2,
+      c .before .before .if1 .taken,
+      c .before .before .before .enum-told2 .given .1,
+      c .before .before .before .before .match .keys2,
     ))
     (λ c. search needs)
     (λ c κs. search needs)
     (λ c. simp (
       c .sent2 .ensures,
-      c .before .if2 .taken,
-      c .before .before .enum-told3 .given .1,
-      c .before .before .before .match .keys3,
+      c .before .before .if2 .taken,
+      c .before .before .before .enum-told3 .given .1,
+      c .before .before .before .before .match .keys3,
     ))
     (λ c κs. search needs)
     (λ c. search needs)
