@@ -101,10 +101,12 @@ harmless-ties {f} s =
 harmless-lock : {f : Frame} → Harmless f → (whole : Bool) (r : Registers) → lockAfter f whole r ≡ r
 unfolding lockAfter ties
 harmless-lock {f} s whole r =
+    let untied = never (not (f .broadcast)) in
+    let kept = ap (λ (b : Bool). b && whole) untied in
     open-each (λ (k : ℕ). lockAfter (frame·control k f) whole r ≡ r)
-    (pick-no (ties (frame·control 0 f)) _ _ (never (not (f .broadcast))))
-    (pick-no (ties (frame·control 4 f)) _ _ (never (not (f .broadcast))))
-    (pick-no (ties (frame·control 5 f)) _ _ (never (not (f .broadcast)))) (f .control) (s .open-control)
+    (pick-no (ties (frame·control 0 f)) _ _ untied ∙ pick-no _ _ _ kept)
+    (pick-no (ties (frame·control 4 f)) _ _ untied ∙ pick-no _ _ _ kept)
+    (pick-no (ties (frame·control 5 f)) _ _ untied ∙ pick-no _ _ _ kept) (f .control) (s .open-control)
 
 -- ---- the end of a stranger's frame leaves no trace
 

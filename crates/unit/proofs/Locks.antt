@@ -95,7 +95,8 @@ module _ (h : ℕ) (c : Core) (o : c .regs .holder ≡ h) where
   lock-fast whole f b =
       pick-ind (Fast h) (ties (c .frame)) _ _
       (λ t. pick-ind (Fast h) whole _ _ (λ u l. absurd (subst T (sym l) tt)) (λ u l. holder t))
-      (λ t. pick-ind (Fast h) (eqb (c .frame .control) 6 && whole) _ _ (λ u l. absurd (subst T (sym l) tt))
+      (λ t. pick-ind (Fast h) (not (c .frame .broadcast) && eqb (c .frame .control) 6 && whole) _ _
+      (λ u l. absurd (subst T (sym l) tt))
       (λ u l. o))
     where
       holder : ties (c .frame) ≡ true → c .frame .master ≡ h

@@ -51,7 +51,7 @@ ties f = not (f .broadcast) && (eqb (f .control) 3 || eqb (f .control) 10 || eqb
 unfoldable pub lockAfter : Frame → Bool → Registers → Registers
 lockAfter f whole r =
     pick (ties f) (pick whole (unlocked r) (lockedTo (f .master) r))
-    (pick (eqb (f .control) 6 && whole) (unlocked r) r)
+    (pick (not (f .broadcast) && eqb (f .control) 6 && whole) (unlocked r) r)
 
 -- ---- the ends
 
