@@ -2,4 +2,5 @@
 // `requires`, and nothing is assumed.
 pub mod answer;
 mod endings;
+mod slots;
 pub mod state;
