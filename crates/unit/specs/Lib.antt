@@ -4,3 +4,5 @@ pub mod Endings
 pub mod Slots
 pub mod Registers
 pub mod Step
+pub mod Queue
+pub mod Both

@@ -28,8 +28,8 @@ fn reply_word(reply: Reply) -> u32
     }
 }
 
-// "Answers: 8 slot taken, 9 written, 10 read (bits 7-0 value), 15 refused (bits 7-0 number). Kinds 8 to 10 carry in bits
-// 9-8 what the unit drives in the next slot".
+// "Answers: 8 slot taken, 9 written, 10 read (bits 7-0 value), 15 refused (bits 7-0 number). Kinds 8 to 10 carry in
+// bits 9-8 what the unit drives in the next slot".
 pub fn answer_word(answer: Answer) -> u32
     ensures { λ r. ⌜ r ≡ wordOf answer ⌝ }
 {
