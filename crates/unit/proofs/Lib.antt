@@ -1,2 +1,3 @@
 -- The laws that the proofs of this library share.
 pub mod Circle
+pub mod Joins

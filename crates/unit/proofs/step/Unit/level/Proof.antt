@@ -1,3 +1,6 @@
+use mathlib.Core.Path.{_∙_, sym}
+use Rattle.unit.proofs.Joins.{level-refused, level-taken}
+use Rattle.unit.specs.Both.{stateOf}
 use borrow.Author.Needs.{needs}
 use Rattle.unit.proofs.step.Unit.level.Statement.{statement}
 use Rattle.unit.proofs.step.Unit.level.Tie as tie
@@ -19,7 +22,10 @@ refused-requires c κs = search needs
 
 -- src/step.rt:144:13
 returns : tie.Need-returns
-returns c = ?
+returns c =
+    let a = c .before .before .before .args in
+    c .refused .ensures
+    ∙ level-refused (stateOf (a .self)) (a .bit) (sym (c .before .before .clash .ensures) ∙ c .before .if1 .taken)
 
 -- src/step.rt:146:48
 seen-requires : tie.Need-seen-requires
@@ -35,7 +41,12 @@ acted-on-requires c κs = search needs
 
 -- src/step.rt:140:5
 returns-2 : tie.Need-returns-2
-returns-2 c = ?
+returns-2 c =
+    let a = c .before .before .before .before .before .args in
+    c .acted-on .ensures
+    ∙ rw (c .before .on-level .ensures, c .before .before .seen .ensures)
+    (level-taken (stateOf (a .self)) (a .bit)
+    (sym (c .before .before .before .before .clash .ensures) ∙ c .before .before .before .if1 .left))
 
 pub level-spec : {M : Type 1} → statement M
 level-spec =

@@ -1,3 +1,7 @@
+use borrow.Author.Tests.{eq-eqb, ne-eqb}
+use mathlib.Core.Path.{_∙_}
+use Rattle.unit.proofs.Joins.{read-byte, read-other, read-refused}
+use Rattle.unit.specs.Both.{stateOf}
 use borrow.Author.Needs.{needs}
 use Rattle.unit.proofs.step.Unit.read.Statement.{statement}
 use Rattle.unit.proofs.step.Unit.read.Tie as tie
@@ -40,7 +44,14 @@ gave-requires c κs = search needs
 
 -- src/step.rt:220:17
 returns : tie.Need-returns
-returns c = ?
+returns c =
+    let a = c .before .before .before .before .before .before .before .before .before .before .before .args in
+    c .gave .ensures
+    ∙ rw (c .before .front .ensures, c .before .before .with-rbf .ensures, c .before .before .before .popped .ensures)
+    (read-byte (stateOf (a .self)) (a .register)
+    (rw (← c .before .before .before .before .before .before .before .is-empty .ensures, ← c .before .before .before .before .before .before .read-refusal .ensures)
+    (eq-eqb _ _ (c .before .before .before .before .before .if1 .taken)))
+    (eq-eqb _ _ (c .before .before .before .before .if2 .taken)))
 
 -- src/step.rt:222:52
 len-requires : tie.Need-len-requires
@@ -60,7 +71,14 @@ gave-requires-2 c κs = search needs
 
 -- src/step.rt:222:13
 returns-2 : tie.Need-returns-2
-returns-2 c = ?
+returns-2 c =
+    let a = c .before .before .before .before .before .before .before .before .before .before .before .args in
+    c .gave2 .ensures
+    ∙ rw (c .before .read-value .ensures, c .before .before .len2 .ensures, c .before .before .before .len .ensures)
+    (read-other (stateOf (a .self)) (a .register)
+    (rw (← c .before .before .before .before .before .before .before .is-empty .ensures, ← c .before .before .before .before .before .before .read-refusal .ensures)
+    (eq-eqb _ _ (c .before .before .before .before .before .if1 .taken)))
+    (ne-eqb _ _ (c .before .before .before .before .if2 .left)))
 
 -- src/step.rt:224:9
 refused-requires : tie.Need-refused-requires
@@ -68,7 +86,13 @@ refused-requires c κs = search needs
 
 -- src/step.rt:211:5
 returns-3 : tie.Need-returns-3
-returns-3 c = ?
+returns-3 c =
+    let a = c .before .before .before .before .before .before .before .args in
+    c .refused .ensures
+    ∙ rw (c .before .before .read-refusal .ensures, c .before .before .before .is-empty .ensures)
+    (read-refused (stateOf (a .self)) (a .register)
+    (rw (← c .before .before .before .is-empty .ensures, ← c .before .before .read-refusal .ensures)
+    (ne-eqb _ _ (c .before .if1 .left))))
 
 pub read-spec : {M : Type 1} → statement M
 read-spec =

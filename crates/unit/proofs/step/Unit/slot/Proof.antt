@@ -1,3 +1,6 @@
+use mathlib.Core.Path.{_∙_}
+use Rattle.unit.proofs.Joins.{idle-taken, start-taken, stray-refused}
+use Rattle.unit.specs.Both.{stateOf}
 use borrow.Author.Needs.{needs}
 use Rattle.unit.proofs.step.Unit.slot.Statement.{statement}
 use Rattle.unit.proofs.step.Unit.slot.Tie as tie
@@ -60,15 +63,23 @@ returns c = simp (c .level .ensures, c .before .known-told .given .0, c .before 
 
 -- src/step.rt:149:5
 returns-2 : tie.Need-returns-2
-returns-2 c = ?
+returns-2 c =
+    c .acted-on .ensures
+    ∙ rw (c .before .on-start .ensures, c .before .before .is-empty .ensures, c .before .before .before .enum-told .given .1)
+    (start-taken (stateOf (c .before .before .before .before .before .before .args .self)))
 
 -- src/step.rt:149:5
 returns-3 : tie.Need-returns-3
-returns-3 c = ?
+returns-3 c =
+    c .acted-on2 .ensures
+    ∙ rw (c .before .on-idle .ensures, c .before .before .enum-told2 .given .1)
+    (idle-taken (stateOf (c .before .before .before .before .before .args .self)))
 
 -- src/step.rt:149:5
 returns-4 : tie.Need-returns-4
-returns-4 c = ?
+returns-4 c =
+    c .refused .ensures
+    ∙ rw (c .before .enum-told3 .given .1) (stray-refused (stateOf (c .before .before .before .before .args .self)))
 
 pub slot-spec : {M : Type 1} → statement M
 slot-spec =

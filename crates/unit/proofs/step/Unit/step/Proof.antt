@@ -1,3 +1,8 @@
+use borrow.Author.Tests.{eq-eqb, ne-eqb}
+use mathlib.Core.Path.{_≡_, _∙_, ap}
+use Rattle.unit.specs.Both.{Both, bothOf}
+use Rattle.unit.proofs.Joins.{afterWord, step-host, step-slot}
+use Rattle.unit.specs.Both.{stateOf}
 use borrow.Author.Needs.{needs}
 use Rattle.unit.proofs.step.Unit.step.Statement.{statement}
 use Rattle.unit.proofs.step.Unit.step.Tie as tie
@@ -17,7 +22,13 @@ slot-requires c κs = search needs
 
 -- src/step.rt:254:13
 returns : tie.Need-returns
-returns c = ?
+returns c =
+    let a = c .before .before .before .args in
+    let e : bothOf (c .slot .result) ≡ afterWord (stateOf (a .self)) (a .word) =
+        c .slot .ensures
+        ∙ rw (c .before .slot-of .ensures)
+        (step-slot (stateOf (a .self)) (a .word) (eq-eqb _ _ (c .before .before .if1 .taken))) in
+    (ap (λ (b : Both). b .state) e, ap (λ (b : Both). b .answer) e)
 
 -- src/step.rt:256:9
 told-requires : tie.Need-told-requires
@@ -25,7 +36,10 @@ told-requires c κs = search needs
 
 -- src/step.rt:249:5
 returns-2 : tie.Need-returns-2
-returns-2 c = ?
+returns-2 c =
+    let a = c .before .before .args in
+    let e = c .told .ensures ∙ step-host (stateOf (a .self)) (a .word) (ne-eqb _ _ (c .before .if1 .left)) in
+    (ap (λ (b : Both). b .state) e, ap (λ (b : Both). b .answer) e)
 
 pub step-spec : {M : Type 1} → statement M
 step-spec = tie.close (tie.spec slot-of-requires slot-requires returns told-requires returns-2)

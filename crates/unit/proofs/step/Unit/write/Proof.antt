@@ -1,3 +1,7 @@
+use borrow.Author.Tests.{eq-eqb, ne-eqb}
+use mathlib.Core.Path.{_∙_}
+use Rattle.unit.proofs.Joins.{write-accepted, write-refused}
+use Rattle.unit.specs.Both.{stateOf}
 use borrow.Author.Needs.{needs}
 use Rattle.unit.proofs.step.Unit.write.Statement.{statement}
 use Rattle.unit.proofs.step.Unit.write.Tie as tie
@@ -22,7 +26,12 @@ write-done-requires c κs = search needs
 
 -- src/step.rt:206:13
 returns : tie.Need-returns
-returns c = ?
+returns c =
+    let a = c .before .before .before .before .before .before .args in
+    c .write-done .ensures
+    ∙ write-accepted (stateOf (a .self)) (a .register) (a .v)
+    (rw (← c .before .before .before .len .ensures, ← c .before .before .write-refusal .ensures)
+    (eq-eqb _ _ (c .before .if1 .taken)))
 
 -- src/step.rt:208:9
 refused-requires : tie.Need-refused-requires
@@ -30,7 +39,13 @@ refused-requires c κs = search needs
 
 -- src/step.rt:199:5
 returns-2 : tie.Need-returns-2
-returns-2 c = ?
+returns-2 c =
+    let a = c .before .before .before .before .before .before .args in
+    c .refused .ensures
+    ∙ rw (c .before .before .write-refusal .ensures, c .before .before .before .len .ensures)
+    (write-refused (stateOf (a .self)) (a .register) (a .v)
+    (rw (← c .before .before .before .len .ensures, ← c .before .before .write-refusal .ensures)
+    (ne-eqb _ _ (c .before .if1 .left))))
 
 pub write-spec : {M : Type 1} → statement M
 write-spec =

@@ -1,3 +1,8 @@
+use borrow.Author.Tests.{eq-eqb, ne-eqb}
+use mathlib.Core.Path.{_∙_, ap}
+use Rattle.unit.specs.Both.{writtenIn}
+use Rattle.unit.proofs.Joins.{done-other, done-reset, done-tbf}
+use Rattle.unit.specs.Both.{stateOf}
 use borrow.Author.Needs.{needs}
 use Rattle.unit.proofs.step.Unit.write_done.Statement.{statement}
 use Rattle.unit.proofs.step.Unit.write_done.Tie as tie
@@ -24,7 +29,11 @@ written-requires c κs = search needs
 
 -- src/step.rt:191:13
 returns : tie.Need-returns
-returns c = ?
+returns c =
+    let a = c .before .before .before .before .before .before .args in
+    c .written .ensures
+    ∙ rw (c .before .with-tbf .ensures, c .before .before .push .ensures)
+    (done-tbf (stateOf (a .self)) (a .register) (a .v) (eq-eqb _ _ (c .before .before .before .if1 .taken)))
 
 -- src/step.rt:194:20
 reset-requires : tie.Need-reset-requires
@@ -36,7 +45,11 @@ written-requires-2 c κs = search needs
 
 -- src/step.rt:194:13
 returns-2 : tie.Need-returns-2
-returns-2 c = ?
+returns-2 c =
+    let a = c .before .before .before .before .before .before .args in
+    c .written2 .ensures ∙ ap writtenIn (c .before .reset .ensures)
+    ∙ done-reset (stateOf (a .self)) (a .register) (a .v) (ne-eqb _ _ (c .before .before .before .if1 .left))
+    (c .before .before .if2 .taken)
 
 -- src/step.rt:196:24
 write-requires : tie.Need-write-requires
@@ -52,7 +65,12 @@ written-requires-3 c κs = search needs
 
 -- src/step.rt:185:5
 returns-3 : tie.Need-returns-3
-returns-3 c = ?
+returns-3 c =
+    let a = c .before .before .before .before .before .before .before .args in
+    c .written3 .ensures
+    ∙ rw (c .before .with-regs .ensures, c .before .before .write .ensures)
+    (done-other (stateOf (a .self)) (a .register) (a .v) (ne-eqb _ _ (c .before .before .before .before .if1 .left))
+    (c .before .before .before .if2 .left))
 
 pub write-done-spec : {M : Type 1} → statement M
 write-done-spec =
