@@ -267,7 +267,12 @@ fn four_flags(a: bool, b: bool, c: bool, d: bool) -> u8
 fn str_byte(waiting: usize, stored: usize) -> u8
     ensures { λ r. ⌜ r ≡ strByte waiting stored ⌝ }
 {
-    four_flags(TBF_BYTES <= waiting, waiting == 0, RBF_BYTES <= stored, stored == 0)
+    four_flags(
+        TBF_BYTES <= waiting,
+        waiting == 0,
+        RBF_BYTES <= stored,
+        stored == 0,
+    )
 }
 
 // "FLG (MARQ, STRQ, SLRE in bits 6-4)".

@@ -126,7 +126,11 @@ impl Registers {
         ensures { λ r. ⌜ r ≡ statusByte self clear ⌝ }
     {
         let filled = !clear;
-        128 + (self.enabled as u8) * 16 + (self.locked as u8) * 4 + (filled as u8) * 2 + self.strq as u8
+        128
+            + (self.enabled as u8) * 16
+            + (self.locked as u8) * 4
+            + (filled as u8) * 2
+            + self.strq as u8
     }
 
     // The byte that a slave sends of itself: the holder's low 8 bits with 4H, its high 4 with 5H, or the status.
