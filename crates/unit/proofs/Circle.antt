@@ -106,13 +106,6 @@ circle-push n bytes f k x l h =
     rw (e, held-same n k (omega arith), items-length n bytes k (startOf n f), lt-ltb k n h)
     (items-more n bytes x l k (startOf n f) (start-less n f (omega arith)) h)
 
-pub circle-full : (n : ℕ) (bytes : List ℕ) (f k x : ℕ) → n ≤ k
-    → items n bytes f (heldOf n k) ≡ pushOf n (items n bytes f (heldOf n k)) x
-unfolding pushOf
-circle-full n bytes f k x h =
-    let e : heldOf n k ≡ n = ⊎-elim (λ w. omega arith) (λ w. w .1) (picked k n k n) in
-    rw (e, items-length n bytes n f, le-ltb n n (omega arith)) refl
-
 pub circle-front : (n : ℕ) (bytes : List ℕ) (f k : ℕ) → 0 < n → 0 < k
     → getD bytes f 0 ≡ getD (items n bytes f (heldOf n k)) 0 0
 circle-front n bytes f k h j = items-first n bytes f (heldOf n k) (held-some n k h j)
@@ -123,8 +116,11 @@ pub circle-pop : (n : ℕ) (bytes : List ℕ) (f k m : ℕ) → 1 < n → m ≡ 
 circle-pop n bytes f k m h e j =
     let s : startOf n f < n = start-less n f (omega arith) in
     let b : m ≤ n = omega (arith, held-least n k) in
-    rw
-    (held-same n (m - 1) (omega arith), start-same n (wrap n (startOf n f + 1)) (wrap-less n (startOf n f) 1 s h), ← e)
+    rw (
+      held-same n (m - 1) (omega arith),
+      start-same n (wrap n (startOf n f + 1)) (wrap-less n (startOf n f) 1 s h),
+      ← e,
+    )
     (items-rest n bytes (startOf n f) m j)
 
 -- without bytes there is none to leave

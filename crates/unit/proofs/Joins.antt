@@ -20,7 +20,8 @@ use Rattle.unit.specs.Step.{actedOn, answerOf, clashes, slotOn, slotSaid
 
 -- ---- slots
 
-pub level-refused : (s : State) (bit : Bool) → clashes s bit ≡ true → refusedIn s refusedLevel ≡ afterSlot s (Level bit)
+pub level-refused : (s : State) (bit : Bool) → clashes s bit ≡ true
+    → refusedIn s refusedLevel ≡ afterSlot s (Level bit)
 unfolding slotOn slotSaid
 level-refused s bit clash = simp clash
 
@@ -62,24 +63,28 @@ pub done-other : (s : State) (register v : ℕ) → eqb register 0xE ≡ false �
 unfolding writeDone
 done-other s register v other kept = simp (other, kept)
 
-pub write-accepted : (s : State) (register v : ℕ) → eqb (writeRefusal (s .core .regs) (length (s .tbf)) register v) 0 ≡ true
+pub write-accepted : (s : State) (register v : ℕ)
+    → eqb (writeRefusal (s .core .regs) (length (s .tbf)) register v) 0 ≡ true
     → afterDone s register v ≡ afterWrite s register v
 unfolding writeTold
 write-accepted s register v none = simp none
 
-pub write-refused : (s : State) (register v : ℕ) → eqb (writeRefusal (s .core .regs) (length (s .tbf)) register v) 0 ≡ false
+pub write-refused : (s : State) (register v : ℕ)
+    → eqb (writeRefusal (s .core .regs) (length (s .tbf)) register v) 0 ≡ false
     → refusedIn s (writeRefusal (s .core .regs) (length (s .tbf)) register v) ≡ afterWrite s register v
 unfolding writeTold
 write-refused s register v some = simp some
 
 -- ---- reads
 
-pub read-byte : (s : State) (register : ℕ) → eqb (readRefusal register (isEmpty (s .rbf))) 0 ≡ true → eqb register 0xE ≡ true
+pub read-byte : (s : State) (register : ℕ) → eqb (readRefusal register (isEmpty (s .rbf))) 0 ≡ true
+    → eqb register 0xE ≡ true
     → afterTold s (gave (drop 1 (s .rbf)) (getD (s .rbf) 0 0)) ≡ afterRead s register
 unfolding readTold
 read-byte s register none rbf = simp (none, rbf)
 
-pub read-other : (s : State) (register : ℕ) → eqb (readRefusal register (isEmpty (s .rbf))) 0 ≡ true → eqb register 0xE ≡ false
+pub read-other : (s : State) (register : ℕ) → eqb (readRefusal register (isEmpty (s .rbf))) 0 ≡ true
+    → eqb register 0xE ≡ false
     → gaveIn s (readValue (s .core .regs) (length (s .tbf)) (length (s .rbf)) register) ≡ afterRead s register
 unfolding readTold
 read-other s register none other = simp (none, other)

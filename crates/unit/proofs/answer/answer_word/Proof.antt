@@ -14,5 +14,5 @@ answer-word-spec =
     (λ c. search needs)
     (λ c. search needs)
     (λ c. search needs)
-    (λ c. simp (c .reply-word .ensures, c .before .known-told .given .0 .1 .0, c .before .before .answer .given .1, c .before .before .before .match .keys1))
-    (λ c. simp (c .known-told2 .given .0 .0, c .before .answer2 .given .1, c .before .before .match .keys2)))
+    (λ c. simp (c .reply-word .ensures, c .before .before .answer .given .1))
+    (λ c. simp (c .before .answer2 .given .1)))

@@ -14,5 +14,10 @@ cut-spec =
     (λ c κs. search needs)
     (λ c κs. search needs)
     (λ c κs. search needs)
-    (λ c. simp (c .acting .ensures, c .before .enum-told .given .1, c .before .before .match .keys1))
-    (λ c. simp (c .left .ensures, c .before .done .ensures, c .before .before .ended .ensures, c .before .before .before .enum-told2 .given .1, c .before .before .before .before .match .keys2)))
+    (λ c. simp (c .acting .ensures, c .before .enum-told .given .1))
+    (λ c. simp (
+      c .left .ensures,
+      c .before .done .ensures,
+      c .before .before .ended .ensures,
+      c .before .before .before .enum-told2 .given .1,
+    )))

@@ -10,9 +10,24 @@ lock-after-spec =
     (tie.spec
     (λ c κs. search needs)
     (λ c κs. search needs)
-    (λ c. simp (c .unlock .ensures, c .before .if2 .taken, c .before .before .if1 .taken, ← c .before .before .before .ties-lock .ensures))
+    (λ c. simp (
+      c .unlock .ensures,
+      c .before .if2 .taken,
+      c .before .before .if1 .taken,
+      ← c .before .before .before .ties-lock .ensures,
+    ))
     (λ c κs. search needs)
-    (λ c. simp (c .lock-to .ensures, c .before .if2 .left, c .before .before .if1 .taken, ← c .before .before .before .ties-lock .ensures))
+    (λ c. simp (
+      c .lock-to .ensures,
+      c .before .if2 .left,
+      c .before .before .if1 .taken,
+      ← c .before .before .before .ties-lock .ensures,
+    ))
     (λ c κs. search needs)
-    (λ c. simp (c .unlock2 .ensures, c .before .if3 .taken, c .before .before .before .if1 .left, ← c .before .before .before .before .ties-lock .ensures))
+    (λ c. simp (
+      c .unlock2 .ensures,
+      c .before .if3 .taken,
+      c .before .before .before .if1 .left,
+      ← c .before .before .before .before .ties-lock .ensures,
+    ))
     (λ c. simp (c .if3 .left, c .before .before .if1 .left, ← c .before .before .before .ties-lock .ensures)))

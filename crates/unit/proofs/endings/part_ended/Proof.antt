@@ -12,6 +12,16 @@ part-ended-spec =
     (λ c κs. search needs)
     (λ c. simp (c .sending-ended .ensures, c .before .if1 .taken, ← c .before .before .draws-bytes .ensures))
     (λ c κs. search needs)
-    (λ c. simp (c .acting .ensures, c .before .if2 .taken, c .before .before .if1 .left, ← c .before .before .before .draws-bytes .ensures))
+    (λ c. simp (
+      c .acting .ensures,
+      c .before .if2 .taken,
+      c .before .before .if1 .left,
+      ← c .before .before .before .draws-bytes .ensures,
+    ))
     (λ c κs. search needs)
-    (λ c. simp (c .reception-ended .ensures, c .before .if2 .left, c .before .before .if1 .left, ← c .before .before .before .draws-bytes .ensures)))
+    (λ c. simp (
+      c .reception-ended .ensures,
+      c .before .if2 .left,
+      c .before .before .if1 .left,
+      ← c .before .before .before .draws-bytes .ensures,
+    )))

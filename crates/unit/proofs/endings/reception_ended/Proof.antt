@@ -13,4 +13,10 @@ reception-ended-spec =
     (λ c κs. search needs)
     (λ c κs. search needs)
     (λ c κs. search needs)
-    (λ c. simp (c .acting .ensures, c .before .with-regs .ensures, c .before .before .reception-over .ensures, c .before .before .before .end-code .ensures, c .before .before .before .before .received-from .ensures .0)))
+    (λ c. simp (
+      c .acting .ensures,
+      c .before .with-regs .ensures,
+      c .before .before .reception-over .ensures,
+      c .before .before .before .end-code .ensures,
+      c .before .before .before .before .received-from .ensures .0,
+    )))

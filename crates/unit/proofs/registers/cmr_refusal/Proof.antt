@@ -11,6 +11,23 @@ cmr-refusal-spec =
     (λ c. simp (c .if1 .taken))
     (λ c. simp (c .if2 .taken, c .before .before .if1 .left))
     (λ c κs. search needs)
-    (λ c. simp (c .if3 .taken, ← c .before .writes .ensures, c .before .before .if2 .left, c .before .before .before .before .if1 .left))
-    (λ c. simp (c .if4 .taken, c .before .before .before .before .if3 .left, ← c .before .before .before .before .before .writes .ensures, c .before .before .before .before .before .before .if2 .left, c .before .before .before .before .before .before .before .before .if1 .left))
-    (λ c. simp (c .if4 .left, c .before .before .before .before .if3 .left, ← c .before .before .before .before .before .writes .ensures, c .before .before .before .before .before .before .if2 .left, c .before .before .before .before .before .before .before .before .if1 .left)))
+    (λ c. simp (
+      c .if3 .taken,
+      ← c .before .writes .ensures,
+      c .before .before .if2 .left,
+      c .before .before .before .before .if1 .left,
+    ))
+    (λ c. simp (
+      c .if4 .taken,
+      c .before .before .before .before .if3 .left,
+      ← c .before .before .before .before .before .writes .ensures,
+      c .before .before .before .before .before .before .if2 .left,
+      c .before .before .before .before .before .before .before .before .if1 .left,
+    ))
+    (λ c. simp (
+      c .if4 .left,
+      c .before .before .before .before .if3 .left,
+      ← c .before .before .before .before .before .writes .ensures,
+      c .before .before .before .before .before .before .if2 .left,
+      c .before .before .before .before .before .before .before .before .if1 .left,
+    )))

@@ -12,8 +12,22 @@ command-spec =
     (λ c κs. search needs)
     (λ c. simp (c .request-made .ensures, eq-eqb _ _ (c .before .if1 .taken)))
     (λ c κs. search needs)
-    (λ c. simp (c .with-strq .ensures, eq-eqb _ _ (c .before .if2 .taken), ne-eqb _ _ (c .before .before .if1 .left)))
+    (λ c. simp (
+      c .with-strq .ensures,
+      eq-eqb _ _ (c .before .if2 .taken),
+      ne-eqb _ _ (c .before .before .if1 .left),
+    ))
     (λ c κs. search needs)
-    (λ c. simp (c .with-slre .ensures, eq-eqb _ _ (c .before .if3 .taken), ne-eqb _ _ (c .before .before .if2 .left), ne-eqb _ _ (c .before .before .before .if1 .left)))
+    (λ c. simp (
+      c .with-slre .ensures,
+      eq-eqb _ _ (c .before .if3 .taken),
+      ne-eqb _ _ (c .before .before .if2 .left),
+      ne-eqb _ _ (c .before .before .before .if1 .left),
+    ))
     (λ c κs. search needs)
-    (λ c. simp (c .lor-copied .ensures, ne-eqb _ _ (c .before .if3 .left), ne-eqb _ _ (c .before .before .if2 .left), ne-eqb _ _ (c .before .before .before .if1 .left))))
+    (λ c. simp (
+      c .lor-copied .ensures,
+      ne-eqb _ _ (c .before .if3 .left),
+      ne-eqb _ _ (c .before .before .if2 .left),
+      ne-eqb _ _ (c .before .before .before .if1 .left),
+    )))

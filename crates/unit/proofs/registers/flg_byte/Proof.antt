@@ -20,8 +20,17 @@ flg-byte-spec =
     (λ c. omega (arith, rt-bit-le (c .before .args .regs .marq)))
     (λ c. search needs)
     (λ c. omega (arith, rt-bit-le (c .before .before .args .regs .strq)))
-    (λ c. omega (arith, rt-bit-le (c .before .before .args .regs .marq), rt-bit-le (c .before .before .args .regs .strq)))
+    (λ c. omega (
+      arith,
+      rt-bit-le (c .before .before .args .regs .marq),
+      rt-bit-le (c .before .before .args .regs .strq),
+    ))
     (λ c. search needs)
     (λ c. omega (arith, rt-bit-le (c .before .before .before .args .regs .slre)))
-    (λ c. omega (arith, rt-bit-le (c .before .before .before .args .regs .marq), rt-bit-le (c .before .before .before .args .regs .strq), rt-bit-le (c .before .before .before .args .regs .slre)))
+    (λ c. omega (
+      arith,
+      rt-bit-le (c .before .before .before .args .regs .marq),
+      rt-bit-le (c .before .before .before .args .regs .strq),
+      rt-bit-le (c .before .before .before .args .regs .slre),
+    ))
     (λ c. search needs))

@@ -24,5 +24,11 @@ four-flags-spec =
     (λ c. omega (arith, rt-bit-le (c .args .a), rt-bit-le (c .args .b), rt-bit-le (c .args .c)))
     (λ c. search needs)
     (λ c. omega (arith, rt-bit-le (c .args .d)))
-    (λ c. omega (arith, rt-bit-le (c .args .a), rt-bit-le (c .args .b), rt-bit-le (c .args .c), rt-bit-le (c .args .d)))
+    (λ c. omega (
+      arith,
+      rt-bit-le (c .args .a),
+      rt-bit-le (c .args .b),
+      rt-bit-le (c .args .c),
+      rt-bit-le (c .args .d),
+    ))
     (λ c. search needs))

@@ -29,4 +29,12 @@ write-spec =
     (λ c. simp (c .with-own .ensures, c .before .before .match .keys4))
     (λ c. simp (c .with-slave .ensures, c .before .before .match .keys5))
     (λ c. simp (c .with-slave2 .ensures, c .before .before .match .keys6))
-    (λ c. simp (c .mcr-written .ensures, ne-eqb _ _ (c .before .match .rest .0 .0 .0 .0 .0 .1), ne-eqb _ _ (c .before .match .rest .0 .0 .0 .0 .1), ne-eqb _ _ (c .before .match .rest .0 .0 .0 .1), ne-eqb _ _ (c .before .match .rest .0 .0 .1), ne-eqb _ _ (c .before .match .rest .0 .1), ne-eqb _ _ (c .before .match .rest .1))))
+    (λ c. simp (
+      c .mcr-written .ensures,
+      ne-eqb _ _ (c .before .match .rest .0 .0 .0 .0 .0 .1),
+      ne-eqb _ _ (c .before .match .rest .0 .0 .0 .0 .1),
+      ne-eqb _ _ (c .before .match .rest .0 .0 .0 .1),
+      ne-eqb _ _ (c .before .match .rest .0 .0 .1),
+      ne-eqb _ _ (c .before .match .rest .0 .1),
+      ne-eqb _ _ (c .before .match .rest .1),
+    )))

@@ -10,10 +10,18 @@ core-drive-spec =
     (tie.spec
     (λ c. search needs)
     (λ c κs. search needs)
-    (λ c. simp (c .if1 .taken, ← c .before .before .takes-part .ensures, c .before .before .before .enum-told .given .1, c .before .before .before .before .match .keys1))
+    (λ c. simp (
+      c .if1 .taken,
+      ← c .before .before .takes-part .ensures,
+      c .before .before .before .enum-told .given .1,
+    ))
     (λ c. search needs)
     (λ c κs. search needs)
     (λ c κs. search needs)
     (λ c. search needs)
-    (λ c. simp (c .if1 .left, ← c .before .before .takes-part .ensures, c .before .before .before .enum-told .given .1, c .before .before .before .before .match .keys1))
-    (λ c. simp (c .drive .ensures, c .before .view .ensures, c .before .before .enum-told2 .given .1, c .before .before .before .match .keys2)))
+    (λ c. simp (
+      c .if1 .left,
+      ← c .before .before .takes-part .ensures,
+      c .before .before .before .enum-told .given .1,
+    ))
+    (λ c. simp (c .drive .ensures, c .before .view .ensures, c .before .before .enum-told2 .given .1)))

@@ -13,4 +13,9 @@ last-acked-spec =
     (λ c κs. search needs)
     (λ c κs. search needs)
     (λ c κs. search needs)
-    (λ c. simp (c .acting .ensures, c .before .before .ended2 .ensures, c .before .before .before .count-more .ensures, c .before .before .before .before .if1 .left)))
+    (λ c. simp (
+      c .acting .ensures,
+      c .before .before .ended2 .ensures,
+      c .before .before .before .count-more .ensures,
+      c .before .before .before .before .if1 .left,
+    )))

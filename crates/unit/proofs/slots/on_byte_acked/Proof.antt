@@ -12,7 +12,18 @@ on-byte-acked-spec =
     (λ c κs. search needs)
     (λ c. simp (c .next-drawn .ensures, c .before .if1 .taken, ← c .before .before .draws-bytes .ensures))
     (λ c κs. search needs)
-    (λ c. simp (c .acting .ensures, c .before .if2 .taken, c .before .before .if1 .left, ← c .before .before .before .draws-bytes .ensures))
+    (λ c. simp (
+      c .acting .ensures,
+      c .before .if2 .taken,
+      c .before .before .if1 .left,
+      ← c .before .before .before .draws-bytes .ensures,
+    ))
     (λ c κs. search needs)
     (λ c κs. search needs)
-    (λ c. simp (c .acting2 .ensures, c .before .count-more .ensures, c .before .before .if2 .left, c .before .before .before .if1 .left, ← c .before .before .before .before .draws-bytes .ensures)))
+    (λ c. simp (
+      c .acting2 .ensures,
+      c .before .count-more .ensures,
+      c .before .before .if2 .left,
+      c .before .before .before .if1 .left,
+      ← c .before .before .before .before .draws-bytes .ensures,
+    )))

@@ -14,6 +14,18 @@ on-length-acked-spec =
     (λ c κs. search needs)
     (λ c κs. search needs)
     (λ c κs. search needs)
-    (λ c. simp (c .acting .ensures, c .before .with-byte .ensures, ← c .before .before .own-byte .ensures, c .before .before .before .before .if2 .taken, c .before .before .before .before .before .if1 .left, ← c .before .before .before .before .before .before .draws-bytes .ensures))
+    (λ c. simp (
+      c .acting .ensures,
+      c .before .with-byte .ensures,
+      ← c .before .before .own-byte .ensures,
+      c .before .before .before .before .if2 .taken,
+      c .before .before .before .before .before .if1 .left,
+      ← c .before .before .before .before .before .before .draws-bytes .ensures,
+    ))
     (λ c κs. search needs)
-    (λ c. simp (c .reception-begun .ensures, c .before .if2 .left, c .before .before .if1 .left, ← c .before .before .before .draws-bytes .ensures)))
+    (λ c. simp (
+      c .reception-begun .ensures,
+      c .before .if2 .left,
+      c .before .before .if1 .left,
+      ← c .before .before .before .draws-bytes .ensures,
+    )))

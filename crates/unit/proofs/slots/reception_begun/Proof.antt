@@ -13,4 +13,10 @@ reception-begun-spec =
     (λ c κs. search needs)
     (λ c κs. search needs)
     (λ c κs. search needs)
-    (λ c. simp (c .acting .ensures, c .before .with-count .ensures, c .before .before .with-code .ensures, c .before .before .before .reception-code .ensures, ← c .before .before .before .before .header .ensures)))
+    (λ c. simp (
+      c .acting .ensures,
+      c .before .with-count .ensures,
+      c .before .before .with-code .ensures,
+      c .before .before .before .reception-code .ensures,
+      ← c .before .before .before .before .header .ensures,
+    )))

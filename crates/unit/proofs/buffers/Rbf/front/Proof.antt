@@ -11,7 +11,8 @@ unfolding rbfOf items
 returns c = simp (c .if1 .taken)
 
 element-copy-out-result : tie.Need-element-copy-out-result
-element-copy-out-result c = rw (c .start .ensures) (start-less rbfBytes (c .before .before .args .t1 .first) (omega arith))
+element-copy-out-result c =
+    rw (c .start .ensures) (start-less rbfBytes (c .before .before .args .t1 .first) (omega arith))
 
 returns-2 : tie.Need-returns-2
 unfolding rbfOf

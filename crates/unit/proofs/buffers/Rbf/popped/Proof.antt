@@ -22,7 +22,8 @@ returns-2 c =
     let s = c .before .before .before .before .args .self in
     let count = c .before .before .before .held in
     rw (c .behind .ensures, c .before .start .ensures)
-    (circle-pop rbfBytes (s .bytes) (s .first) (s .count) (count .result) (omega arith) (count .ensures) (omega arith))
+    (circle-pop rbfBytes (s .bytes) (s .first) (s .count) (count .result) (omega arith) (count .ensures)
+    (omega arith))
 
 pub popped-spec : {M : Type 1} → statement M
 popped-spec =

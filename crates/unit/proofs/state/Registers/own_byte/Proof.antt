@@ -12,7 +12,15 @@ own-byte-spec =
     (λ c. search needs)
     (λ c. simp (eq-eqb _ _ (c .before .if1 .taken)))
     (λ c. search needs)
-    (λ c. simp (c .before .if3 .taken, eq-eqb _ _ (c .before .before .if2 .taken), ne-eqb _ _ (c .before .before .before .if1 .left)))
+    (λ c. simp (
+      c .before .if3 .taken,
+      eq-eqb _ _ (c .before .before .if2 .taken),
+      ne-eqb _ _ (c .before .before .before .if1 .left),
+    ))
     (λ c. simp (c .if3 .left, eq-eqb _ _ (c .before .if2 .taken), ne-eqb _ _ (c .before .before .if1 .left)))
     (λ c κs. search needs)
-    (λ c. simp (c .status-byte .ensures, ne-eqb _ _ (c .before .if2 .left), ne-eqb _ _ (c .before .before .if1 .left))))
+    (λ c. simp (
+      c .status-byte .ensures,
+      ne-eqb _ _ (c .before .if2 .left),
+      ne-eqb _ _ (c .before .before .if1 .left),
+    )))

@@ -21,10 +21,25 @@ status-byte-spec =
     (λ c. omega (arith, rt-bit-le (c .before .args .self .enabled)))
     (λ c. search needs)
     (λ c. omega (arith, rt-bit-le (c .before .before .args .self .locked)))
-    (λ c. omega (arith, rt-bit-le (c .before .before .args .self .enabled), rt-bit-le (c .before .before .args .self .locked)))
+    (λ c. omega (
+      arith,
+      rt-bit-le (c .before .before .args .self .enabled),
+      rt-bit-le (c .before .before .args .self .locked),
+    ))
     (λ c. search needs)
     (λ c. omega (arith, rt-bit-le (mathlib.Core.Bool.not (c .before .before .args .clear))))
-    (λ c. omega (arith, rt-bit-le (c .before .before .args .self .enabled), rt-bit-le (c .before .before .args .self .locked), rt-bit-le (mathlib.Core.Bool.not (c .before .before .args .clear))))
+    (λ c. omega (
+      arith,
+      rt-bit-le (c .before .before .args .self .enabled),
+      rt-bit-le (c .before .before .args .self .locked),
+      rt-bit-le (mathlib.Core.Bool.not (c .before .before .args .clear)),
+    ))
     (λ c. search needs)
-    (λ c. omega (arith, rt-bit-le (c .before .before .before .args .self .enabled), rt-bit-le (c .before .before .before .args .self .locked), rt-bit-le (mathlib.Core.Bool.not (c .before .before .before .args .clear)), rt-bit-le (c .before .before .before .args .self .strq)))
+    (λ c. omega (
+      arith,
+      rt-bit-le (c .before .before .before .args .self .enabled),
+      rt-bit-le (c .before .before .before .args .self .locked),
+      rt-bit-le (mathlib.Core.Bool.not (c .before .before .before .args .clear)),
+      rt-bit-le (c .before .before .before .args .self .strq),
+    ))
     (λ c. search needs))

@@ -18,9 +18,16 @@ read-spec =
     (λ c κs. search needs)
     (λ c. let a = c .before .before .before .before .before .before .before .before .before .before .before .args in
     c .gave .ensures
-    ∙ rw (c .before .front .ensures, c .before .before .with-rbf .ensures, c .before .before .before .popped .ensures)
+    ∙ rw (
+      c .before .front .ensures,
+      c .before .before .with-rbf .ensures,
+      c .before .before .before .popped .ensures,
+    )
     (read-byte (stateOf (a .self)) (a .register)
-    (rw (← c .before .before .before .before .before .before .before .is-empty .ensures, ← c .before .before .before .before .before .before .read-refusal .ensures)
+    (rw (
+      ← c .before .before .before .before .before .before .before .is-empty .ensures,
+      ← c .before .before .before .before .before .before .read-refusal .ensures,
+    )
     (eq-eqb _ _ (c .before .before .before .before .before .if1 .taken)))
     (eq-eqb _ _ (c .before .before .before .before .if2 .taken))))
     (λ c κs. search needs)
@@ -31,7 +38,10 @@ read-spec =
     c .gave2 .ensures
     ∙ rw (c .before .read-value .ensures, c .before .before .len2 .ensures, c .before .before .before .len .ensures)
     (read-other (stateOf (a .self)) (a .register)
-    (rw (← c .before .before .before .before .before .before .before .is-empty .ensures, ← c .before .before .before .before .before .before .read-refusal .ensures)
+    (rw (
+      ← c .before .before .before .before .before .before .before .is-empty .ensures,
+      ← c .before .before .before .before .before .before .read-refusal .ensures,
+    )
     (eq-eqb _ _ (c .before .before .before .before .before .if1 .taken)))
     (ne-eqb _ _ (c .before .before .before .before .if2 .left))))
     (λ c κs. search needs)

@@ -20,12 +20,17 @@ slot-spec =
     (λ c κs. search needs)
     (λ c. search needs)
     (λ c κs. search needs)
-    (λ c. simp (c .level .ensures, c .before .known-told .given .0, c .before .before .slot .given .1, c .before .before .before .match .keys1))
+    (λ c. simp (c .level .ensures, c .before .before .slot .given .1))
     (λ c. c .acted-on .ensures
-    ∙ rw (c .before .on-start .ensures, c .before .before .is-empty .ensures, c .before .before .before .enum-told .given .1)
+    ∙ rw (
+      c .before .on-start .ensures,
+      c .before .before .is-empty .ensures,
+      c .before .before .before .enum-told .given .1,
+    )
     (start-taken (stateOf (c .before .before .before .before .before .before .args .self))))
     (λ c. c .acted-on2 .ensures
     ∙ rw (c .before .on-idle .ensures, c .before .before .enum-told2 .given .1)
     (idle-taken (stateOf (c .before .before .before .before .before .args .self))))
     (λ c. c .refused .ensures
-    ∙ rw (c .before .enum-told3 .given .1) (stray-refused (stateOf (c .before .before .before .before .args .self)))))
+    ∙ rw (c .before .enum-told3 .given .1) (stray-refused (stateOf
+    (c .before .before .before .before .args .self)))))
