@@ -20,7 +20,7 @@ use Rattle.frame.specs.declared.place.Place.{Place}
 use Rattle.frame.specs.declared.place.Place.the-variants.{Waiting, In}
 use Rattle.isolation.specs.Words.{spells}
 use Rattle.unit.specs.Endings.{acted, draws, ties, lockAfter, partEnded, dataEnded, lengthEnded, endedOf}
-use Rattle.unit.specs.Endings.{requestEnded, slaveEnded}
+use Rattle.unit.specs.Endings.{frees, requestEnded, slaveEnded}
 use Rattle.unit.specs.Set.{core·regs}
 use Rattle.unit.specs.declared.state.Act.the-variants.{Nothing}
 use Rattle.unit.specs.declared.state.Core.{Core}
@@ -99,7 +99,7 @@ harmless-ties {f} s =
 
 -- it moves no lock
 harmless-lock : {f : Frame} → Harmless f → (whole : Bool) (r : Registers) → lockAfter f whole r ≡ r
-unfolding lockAfter ties
+unfolding lockAfter ties frees
 harmless-lock {f} s whole r =
     let untied = never (not (f .broadcast)) in
     let kept = ap (λ (b : Bool). b && whole) untied in

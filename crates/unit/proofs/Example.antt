@@ -133,7 +133,8 @@ unfolding ones onesIn parity.parityOf parity.parityHolds parity.levelOf parity.l
     level.dataJudged level.countedOf level.ackedOf level.lastOf level.wholeOf level.endsOf level.againOf
     level.dataAcked level.atData level.atField level.overruledOf level.inField level.levelOf run state.isEmpty
     state.pushOf state.tbfAfter state.rbfAfter state.takesPart state.statusByte state.ownByte endings.endCode
-    endings.draws endings.ties endings.lockAfter endings.requestEnded endings.sendingEnded endings.receptionEnded
+    endings.draws endings.ties endings.frees endings.lockAfter endings.requestEnded endings.sendingEnded
+    endings.receptionEnded
     endings.partEnded endings.dataEnded endings.lengthEnded endings.endedOf endings.leftOf endings.cutOf
     slots.begun slots.onStart slots.onIdle slots.onLost slots.onAddressed slots.withCode slots.sendingBegun
     slots.lengthDrawn
@@ -166,7 +167,7 @@ unfolding checks along held unasked first second ones onesIn parity.parityOf par
     level.lengthJudged level.atLength level.dataJudged level.countedOf level.ackedOf level.lastOf level.wholeOf
     level.endsOf level.againOf level.dataAcked level.atData level.atField level.overruledOf level.inField
     level.levelOf run state.isEmpty state.pushOf state.tbfAfter state.rbfAfter state.takesPart state.statusByte
-    state.ownByte endings.endCode endings.draws endings.ties endings.lockAfter endings.requestEnded
+    state.ownByte endings.endCode endings.draws endings.ties endings.frees endings.lockAfter endings.requestEnded
     endings.sendingEnded endings.receptionEnded endings.partEnded endings.dataEnded endings.lengthEnded
     endings.endedOf endings.leftOf endings.cutOf slots.begun slots.onStart slots.onIdle slots.onLost slots.onAddressed
     slots.withCode slots.sendingBegun slots.lengthDrawn slots.onControlAcked slots.wanted slots.byteDrawn
@@ -232,7 +233,8 @@ unfolding first ones onesIn parity.parityOf parity.parityHolds parity.levelOf pa
     level.dataJudged level.countedOf level.ackedOf level.lastOf level.wholeOf level.endsOf level.againOf
     level.dataAcked level.atData level.atField level.overruledOf level.inField level.levelOf run state.isEmpty
     state.pushOf state.tbfAfter state.rbfAfter state.takesPart state.statusByte state.ownByte endings.endCode
-    endings.draws endings.ties endings.lockAfter endings.requestEnded endings.sendingEnded endings.receptionEnded
+    endings.draws endings.ties endings.frees endings.lockAfter endings.requestEnded endings.sendingEnded
+    endings.receptionEnded
     endings.partEnded endings.dataEnded endings.lengthEnded endings.endedOf endings.leftOf endings.cutOf
     slots.begun slots.onStart slots.onIdle slots.onLost slots.onAddressed slots.withCode slots.sendingBegun
     slots.lengthDrawn

@@ -1,3 +1,6 @@
+-- The laws that the proofs of this library share, then demand 3 over its definitions.
+pub mod Circle
+pub mod Joins
 pub mod Answers
 pub mod Calm
 pub mod Strangers

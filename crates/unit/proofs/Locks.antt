@@ -35,7 +35,8 @@ use Rattle.isolation.specs.Runs.{run}
 use Rattle.unit.specs.Machine.{unit, waiting}
 use Rattle.unit.specs.Set.{core·frame, core·idle, core·regs}
 use Rattle.unit.specs.State.{State, isEmpty, seenOf, viewOf}
-use Rattle.unit.specs.Endings.{acted, cutAt, cutOf, dataEnded, draws, endedOf, leftOf, lengthEnded, lockAfter}
+use Rattle.unit.specs.Endings.{acted, cutAt, cutOf, dataEnded, draws, endedOf, frees, leftOf, lengthEnded}
+use Rattle.unit.specs.Endings.{lockAfter}
 use Rattle.unit.specs.Endings.{partEnded, receptionEnded, requestEnded, sendingEnded, slaveEnded, ties}
 use Rattle.unit.specs.Slots.{begun, byteDrawn, counted, lastAcked, lengthDrawn, nextDrawn, onAddressed}
 use Rattle.unit.specs.Slots.{onByteAcked}
@@ -95,7 +96,7 @@ module _ (h : ℕ) (c : Core) (o : c .regs .holder ≡ h) where
   lock-fast whole f b =
       pick-ind (Fast h) (ties (c .frame)) _ _
       (λ t. pick-ind (Fast h) whole _ _ (λ u l. absurd (subst T (sym l) tt)) (λ u l. holder t))
-      (λ t. pick-ind (Fast h) (not (c .frame .broadcast) && eqb (c .frame .control) 6 && whole) _ _
+      (λ t. pick-ind (Fast h) (frees (c .frame) whole) _ _
       (λ u l. absurd (subst T (sym l) tt))
       (λ u l. o))
     where

@@ -158,7 +158,8 @@ unfolding allGiven lineCases frameCases unitCases ones onesIn lossesOf lossOf se
     level.dataJudged level.countedOf level.ackedOf level.lastOf level.wholeOf level.endsOf level.againOf
     level.dataAcked level.atData level.atField level.overruledOf level.inField level.levelOf run answers
     state.isEmpty state.pushOf state.tbfAfter state.rbfAfter state.takesPart state.statusByte state.ownByte
-    endings.endCode endings.draws endings.ties endings.lockAfter endings.requestEnded endings.sendingEnded
+    endings.endCode endings.draws endings.ties endings.frees endings.lockAfter endings.requestEnded
+    endings.sendingEnded
     endings.receptionEnded endings.partEnded endings.dataEnded endings.lengthEnded endings.endedOf endings.leftOf
     endings.cutOf slots.begun slots.onStart slots.onIdle slots.onLost slots.onAddressed slots.withCode
     slots.sendingBegun

@@ -45,13 +45,17 @@ lockedTo master r = r ▹ registers·locked true ▹ registers·holder master
 unfoldable pub ties : Frame → Bool
 ties f = not (f .broadcast) && (eqb (f .control) 3 || eqb (f .control) 10 || eqb (f .control) 11)
 
+-- "6H unlocks when its byte is ACKed."
+unfoldable pub frees : Frame → Bool → Bool
+frees f whole = not (f .broadcast) && eqb (f .control) 6 && whole
+
 -- ".. has its length ACKed, the frame's end before all bytes are ACKed locks to its master; all bytes ACKed unlocks.
 -- 6H
 -- unlocks when its byte is ACKed."
 unfoldable pub lockAfter : Frame → Bool → Registers → Registers
 lockAfter f whole r =
     pick (ties f) (pick whole (unlocked r) (lockedTo (f .master) r))
-    (pick (not (f .broadcast) && eqb (f .control) 6 && whole) (unlocked r) r)
+    (pick (frees f whole) (unlocked r) r)
 
 -- ---- the ends
 

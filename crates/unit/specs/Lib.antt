@@ -1,3 +1,6 @@
+-- The definitions that a reader has to believe, in the order of document 01; then how the code's structs stand for
+-- them,
+-- and the marked cases.
 pub mod Set
 pub mod State
 pub mod Endings
@@ -5,4 +8,6 @@ pub mod Slots
 pub mod Registers
 pub mod Step
 pub mod Machine
+pub mod Queue
+pub mod Both
 pub mod Cases

@@ -1,4 +1,9 @@
-// A unit: its registers, buffers, lock and return codes, and what it makes of every word. So far its state and the
-// definitions of `specs/`; the code comes with its proofs.
+// A unit: its registers, buffers, lock and return codes, and what it makes of every word. No public function has a
+// `requires`, and nothing is assumed.
 pub mod answer;
+pub mod buffers;
+mod endings;
+mod registers;
+mod slots;
 pub mod state;
+pub mod step;

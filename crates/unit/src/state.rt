@@ -1,5 +1,11 @@
 // The state of a unit, and what passes between its parts.
+ghost use mathlib.Core.Path.{_≡_};
+ghost use Rattle.unit.specs.Endings.{acted};
+ghost use Rattle.unit.specs.Set.{acted·core, core·frame, core·idle, core·regs};
+ghost use Rattle.unit.specs.State.{ownByte, resetCore, resetRegisters, statusByte, takesPart, viewOf};
 use frame::place::Frame;
+use frame::place::View;
+use frame::writes;
 
 // The registers, flags and codes, and the lock: what lasts, without the buffers.
 pub struct Registers {
@@ -61,4 +67,137 @@ pub enum Act {
 pub struct Acted {
     pub core: Core,
     pub act: Act,
+}
+
+impl Registers {
+    // "Reset: RCR FFH, MCR 80H, all else zero or empty".
+    pub fn reset() -> Registers
+        ensures { λ r. ⌜ r ≡ resetRegisters ⌝ }
+    {
+        Registers {
+            own: 0,
+            enabled: false,
+            long: false,
+            slave: 0,
+            bit: true,
+            retries: 0,
+            control: 0,
+            marq: false,
+            strq: false,
+            slre: false,
+            losses: 0,
+            lor1: 0,
+            lor2: 0,
+            rdr1: 0,
+            rdr2: 0,
+            marc: 15,
+            slrc: 15,
+            locked: false,
+            holder: 0,
+        }
+    }
+
+    // What a frame sees of the unit.
+    pub(crate) fn view(self, clear: bool) -> View
+        ensures { λ r. ⌜ r ≡ viewOf self clear ⌝ }
+    {
+        View {
+            own: self.own,
+            bit: self.bit,
+            slave: self.slave,
+            control: self.control,
+            strq: self.strq,
+            ready: self.slre & clear,
+            locked: self.locked,
+            holder: self.holder,
+        }
+    }
+
+    // A request stands and does not hold back: "a read request holds back while RBF is not empty".
+    pub(crate) fn takes_part(self, clear: bool) -> bool
+        ensures { λ r. ⌜ r ≡ takesPart self clear ⌝ }
+    {
+        self.marq & (writes(self.control) | clear)
+    }
+
+    // "The status byte has bit 0 STRQ, bit 1 RBF not empty (table 2-5), bit 2 locked, bit 4 sending enabled, bits 7-6
+    // = 10".
+    fn status_byte(self, clear: bool) -> u8
+        ensures { λ r. ⌜ r ≡ statusByte self clear ⌝ }
+    {
+        let filled = !clear;
+        128
+            + (self.enabled as u8) * 16
+            + (self.locked as u8) * 4
+            + (filled as u8) * 2
+            + self.strq as u8
+    }
+
+    // The byte that a slave sends of itself: the holder's low 8 bits with 4H, its high 4 with 5H, or the status.
+    pub(crate) fn own_byte(self, control: u8, clear: bool) -> u8
+        ensures { λ r. ⌜ r ≡ ownByte self control clear ⌝ }
+    {
+        if control == 4 {
+            return (self.holder % 256) as u8;
+        }
+        if control == 5 {
+            if self.locked {
+                return (self.holder / 256 % 16) as u8;
+            }
+            return 0;
+        }
+        self.status_byte(clear)
+    }
+}
+
+impl Core {
+    // ".. waiting for a start, idle not seen."
+    pub fn reset() -> Core
+        ensures { λ r. ⌜ r ≡ resetCore ⌝ }
+    {
+        let regs = Registers::reset();
+        let frame = Frame::none();
+        Core {
+            regs,
+            frame,
+            idle: false,
+        }
+    }
+
+    pub(crate) fn with_regs(mut self, regs: Registers) -> Core
+        ensures { λ r. ⌜ r ≡ core·regs regs self ⌝ }
+    {
+        self.regs = regs;
+        self
+    }
+
+    pub(crate) fn with_frame(mut self, frame: Frame) -> Core
+        ensures { λ r. ⌜ r ≡ core·frame frame self ⌝ }
+    {
+        self.frame = frame;
+        self
+    }
+
+    pub(crate) fn with_idle(mut self, idle: bool) -> Core
+        ensures { λ r. ⌜ r ≡ core·idle idle self ⌝ }
+    {
+        self.idle = idle;
+        self
+    }
+
+    // With something to be done to the buffers.
+    pub(crate) fn acting(self, act: Act) -> Acted
+        ensures { λ r. ⌜ r ≡ acted act self ⌝ }
+    {
+        Acted { core: self, act }
+    }
+}
+
+impl Acted {
+    pub(crate) fn with_core(mut self, core: Core) -> Acted
+        ensures { λ r. ⌜ r ≡ acted·core core self ⌝ }
+    {
+        self.core = core;
+        self
+    }
 }

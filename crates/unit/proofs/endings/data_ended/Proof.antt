@@ -1,0 +1,14 @@
+use Rattle.unit.specs.Endings.{dataEnded}
+use borrow.Author.Needs.{needs}
+use Rattle.unit.proofs.endings.data_ended.Statement.{statement}
+use Rattle.unit.proofs.endings.data_ended.Tie as tie
+
+pub data-ended-spec : {M : Type 1} → statement M
+unfolding dataEnded
+data-ended-spec =
+    tie.close
+    (tie.spec
+    (λ c κs. search needs)
+    (λ c κs. search needs)
+    (λ c κs. search needs)
+    (λ c. simp (c .part-ended .ensures, c .before .with-regs .ensures, c .before .before .lock-after .ensures)))

@@ -1,0 +1,13 @@
+use Rattle.unit.specs.Endings.{leftOf}
+use borrow.Author.Needs.{needs}
+use Rattle.unit.proofs.endings.left.Statement.{statement}
+use Rattle.unit.proofs.endings.left.Tie as tie
+
+pub left-spec : {M : Type 1} → statement M
+unfolding leftOf
+left-spec =
+    tie.close
+    (tie.spec
+    (λ c κs. search needs)
+    (λ c κs. search needs)
+    (λ c. simp (c .with-core .ensures, c .before .with-frame .ensures)))

@@ -1,0 +1,22 @@
+use Rattle.unit.specs.Endings.{receptionEnded}
+use borrow.Author.Needs.{needs}
+use Rattle.unit.proofs.endings.reception_ended.Statement.{statement}
+use Rattle.unit.proofs.endings.reception_ended.Tie as tie
+
+pub reception-ended-spec : {M : Type 1} → statement M
+unfolding receptionEnded
+reception-ended-spec =
+    tie.close
+    (tie.spec
+    (λ c κs. search needs)
+    (λ c κs. search needs)
+    (λ c κs. search needs)
+    (λ c κs. search needs)
+    (λ c κs. search needs)
+    (λ c. simp (
+      c .acting .ensures,
+      c .before .with-regs .ensures,
+      c .before .before .reception-over .ensures,
+      c .before .before .before .end-code .ensures,
+      c .before .before .before .before .received-from .ensures .0,
+    )))

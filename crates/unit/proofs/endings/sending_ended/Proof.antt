@@ -1,0 +1,20 @@
+use Rattle.unit.specs.Endings.{sendingEnded}
+use borrow.Author.Needs.{needs}
+use Rattle.unit.proofs.endings.sending_ended.Statement.{statement}
+use Rattle.unit.proofs.endings.sending_ended.Tie as tie
+
+pub sending-ended-spec : {M : Type 1} → statement M
+unfolding sendingEnded
+sending-ended-spec =
+    tie.close
+    (tie.spec
+    (λ c κs. search needs)
+    (λ c κs. search needs)
+    (λ c κs. search needs)
+    (λ c κs. search needs)
+    (λ c. simp (
+      c .acting .ensures,
+      c .before .with-regs .ensures,
+      c .before .before .sending-over .ensures,
+      c .before .before .before .end-code .ensures,
+    )))

@@ -1,0 +1,11 @@
+use Rattle.unit.specs.Registers.{requested}
+use borrow.Author.Needs.{needs}
+use Rattle.unit.proofs.registers.request_made.Statement.{statement}
+use Rattle.unit.proofs.registers.request_made.Tie as tie
+
+pub request-made-spec : {M : Type 1} → statement M
+unfolding requested
+request-made-spec =
+    tie.close
+    (tie.spec
+    (λ c. search needs))

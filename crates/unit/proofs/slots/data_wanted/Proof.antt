@@ -1,0 +1,12 @@
+use Rattle.unit.specs.Slots.{wanted}
+use borrow.Author.Needs.{needs}
+use Rattle.unit.proofs.slots.data_wanted.Statement.{statement}
+use Rattle.unit.proofs.slots.data_wanted.Tie as tie
+
+pub data-wanted-spec : {M : Type 1} → statement M
+unfolding wanted
+data-wanted-spec =
+    tie.close
+    (tie.spec
+    (λ c. search needs)
+    (λ c. search needs))

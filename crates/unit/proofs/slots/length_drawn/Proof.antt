@@ -1,0 +1,14 @@
+use Rattle.unit.specs.Slots.{lengthDrawn}
+use borrow.Author.Needs.{needs}
+use Rattle.unit.proofs.slots.length_drawn.Statement.{statement}
+use Rattle.unit.proofs.slots.length_drawn.Tie as tie
+
+pub length-drawn-spec : {M : Type 1} → statement M
+unfolding lengthDrawn
+length-drawn-spec =
+    tie.close
+    (tie.spec
+    (λ c κs. search needs)
+    (λ c κs. search needs)
+    (λ c κs. search needs)
+    (λ c. simp (c .acting .ensures, c .before .with-frame .ensures, c .before .before .with-length .ensures)))

@@ -1,0 +1,20 @@
+use Rattle.unit.specs.Slots.{onAddressed}
+use borrow.Author.Needs.{needs}
+use Rattle.unit.proofs.slots.on_addressed.Statement.{statement}
+use Rattle.unit.proofs.slots.on_addressed.Tie as tie
+
+pub on-addressed-spec : {M : Type 1} → statement M
+unfolding onAddressed
+on-addressed-spec =
+    tie.close
+    (tie.spec
+    (λ c κs. search needs)
+    (λ c κs. search needs)
+    (λ c κs. search needs)
+    (λ c. simp (
+      c .with-regs .ensures,
+      c .before .with-marc .ensures,
+      c .before .before .if1 .taken,
+      ← c .before .before .before .before .writes .ensures,
+    ))
+    (λ c. simp (c .if1 .left, ← c .before .before .writes .ensures)))

@@ -1,0 +1,14 @@
+use Rattle.unit.specs.Slots.{onIdle}
+use borrow.Author.Needs.{needs}
+use Rattle.unit.proofs.slots.on_idle.Statement.{statement}
+use Rattle.unit.proofs.slots.on_idle.Tie as tie
+
+pub on-idle-spec : {M : Type 1} → statement M
+unfolding onIdle
+on-idle-spec =
+    tie.close
+    (tie.spec
+    (λ c κs. search needs)
+    (λ c κs. search needs)
+    (λ c κs. search needs)
+    (λ c. simp (c .with-core .ensures, c .before .with-idle .ensures, c .before .before .before .cut .ensures)))

@@ -1,0 +1,20 @@
+use Rattle.unit.specs.Slots.{onLevel}
+use borrow.Author.Needs.{needs}
+use Rattle.unit.proofs.slots.on_level.Statement.{statement}
+use Rattle.unit.proofs.slots.on_level.Tie as tie
+
+pub on-level-spec : {M : Type 1} → statement M
+unfolding onLevel
+on-level-spec =
+    tie.close
+    (tie.spec
+    (λ c κs. search needs)
+    (λ c κs. search needs)
+    (λ c κs. search needs)
+    (λ c κs. search needs)
+    (λ c. simp (
+      c .on-event .ensures,
+      c .before .with-idle .ensures,
+      c .before .before .before .level .ensures,
+      c .before .before .before .before .view .ensures,
+    )))

@@ -1,0 +1,23 @@
+use Rattle.unit.specs.Slots.{onLost}
+use borrow.Author.Tests.{lt-ltb, le-ltb}
+use borrow.Author.Needs.{needs}
+use Rattle.unit.proofs.slots.on_lost.Statement.{statement}
+use Rattle.unit.proofs.slots.on_lost.Tie as tie
+
+pub on-lost-spec : {M : Type 1} → statement M
+unfolding onLost
+on-lost-spec =
+    tie.close
+    (tie.spec
+    (λ c. search needs)
+    (λ c κs. search needs)
+    (λ c κs. search needs)
+    (λ c κs. search needs)
+    (λ c. simp (
+      c .acting .ensures,
+      c .before .with-regs .ensures,
+      c .before .before .with-losses .ensures,
+      lt-ltb _ _ (c .before .before .before .before .if1 .taken),
+    ))
+    (λ c κs. search needs)
+    (λ c. simp (c .request-ended .ensures, le-ltb _ _ (c .before .if1 .left))))

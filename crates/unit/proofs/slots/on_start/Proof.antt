@@ -1,0 +1,24 @@
+use Rattle.unit.specs.Slots.{begun, onStart}
+use borrow.Author.Needs.{needs}
+use Rattle.unit.proofs.slots.on_start.Statement.{statement}
+use Rattle.unit.proofs.slots.on_start.Tie as tie
+
+pub on-start-spec : {M : Type 1} → statement M
+unfolding onStart begun
+on-start-spec =
+    tie.close
+    (tie.spec
+    (λ c κs. search needs)
+    (λ c κs. search needs)
+    (λ c κs. search needs)
+    (λ c κs. search needs)
+    (λ c κs. search needs)
+    (λ c κs. search needs)
+    (λ c. simp (
+      c .with-core .ensures,
+      c .before .with-idle .ensures,
+      c .before .before .with-frame .ensures,
+      c .before .before .before .begun .ensures,
+      c .before .before .before .before .takes-part .ensures,
+      c .before .before .before .before .before .before .before .cut .ensures,
+    )))

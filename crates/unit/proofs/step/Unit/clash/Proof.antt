@@ -1,0 +1,12 @@
+use Rattle.unit.specs.Step.{clashes}
+use borrow.Author.Needs.{needs}
+use Rattle.unit.proofs.step.Unit.clash.Statement.{statement}
+use Rattle.unit.proofs.step.Unit.clash.Tie as tie
+
+pub clash-spec : {M : Type 1} → statement M
+unfolding clashes
+clash-spec =
+    tie.close
+    (tie.spec
+    (λ c κs. search needs)
+    (λ c. simp (c .drive .ensures)))

@@ -1,0 +1,232 @@
+// How a unit's part in a frame ends: return codes, flags, TBF and the lock.
+ghost use mathlib.Core.Bool.{false};
+ghost use mathlib.Core.Path.{_≡_};
+ghost use Prim.Native.Nat.{_≤_};
+ghost use Rattle.line.specs.Choice.{pick};
+ghost use Rattle.unit.specs.Endings.{cutOf, dataEnded, draws, endCode, endedOf, frees, leftOf, lengthEnded};
+ghost use Rattle.unit.specs.Endings.{lockAfter};
+ghost use Rattle.unit.specs.Endings.{lockedTo, partEnded, receptionEnded, requestEnded, sendingEnded};
+ghost use Rattle.unit.specs.Endings.{slaveEnded, ties, unlocked};
+ghost use Rattle.unit.specs.Set.{registers·marc, registers·marq, registers·slrc, registers·slre};
+ghost use Rattle.unit.specs.Set.{registers·strq};
+use crate::state::Act;
+use crate::state::Acted;
+use crate::state::Core;
+use crate::state::Registers;
+use frame::place::Field;
+use frame::place::Frame;
+use frame::place::Place;
+use frame::writes;
+
+// "Codes, in the order started, data wanted or full, normal, aborted": the code of an end, from that of the start.
+fn end_code(started: u8, whole: bool) -> u8
+    requires { ⌜ started ≤ 8 ⌝ }
+    ensures { λ r. ⌜ r ≡ endCode started whole ⌝ }
+{
+    if whole {
+        return started + 2;
+    }
+    started + 3
+}
+
+// What is sent comes from TBF: a master's, and a slave's with 3H or 7H.
+pub(crate) fn draws_bytes(frame: Frame) -> bool
+    ensures { λ r. ⌜ r ≡ draws frame ⌝ }
+{
+    frame.sends & (frame.leads | (frame.control == 3) | (frame.control == 7))
+}
+
+fn unlock(mut regs: Registers) -> Registers
+    ensures { λ r. ⌜ r ≡ unlocked regs ⌝ }
+{
+    regs.locked = false;
+    regs.holder = 0;
+    regs
+}
+
+fn lock_to(mut regs: Registers, master: u16) -> Registers
+    ensures { λ r. ⌜ r ≡ lockedTo master regs ⌝ }
+{
+    regs.locked = true;
+    regs.holder = master;
+    regs
+}
+
+// 3H, AH and BH lock and unlock; "broadcasts do neither".
+fn ties_lock(frame: Frame) -> bool
+    ensures { λ r. ⌜ r ≡ ties frame ⌝ }
+{
+    !frame.broadcast & ((frame.control == 3) | (frame.control == 10) | (frame.control == 11))
+}
+
+// "6H unlocks when its byte is ACKed."
+fn frees_lock(frame: Frame, whole: bool) -> bool
+    ensures { λ r. ⌜ r ≡ frees frame whole ⌝ }
+{
+    !frame.broadcast & (frame.control == 6) & whole
+}
+
+// "Once 3H, AH or BH has its length ACKed, the frame's end before all bytes are ACKed locks to its master; all bytes
+// ACKed unlocks. 6H unlocks when its byte is ACKed."
+fn lock_after(frame: Frame, whole: bool, regs: Registers) -> Registers
+    ensures { λ r. ⌜ r ≡ lockAfter frame whole regs ⌝ }
+{
+    if ties_lock(frame) {
+        if whole {
+            return unlock(regs);
+        }
+        return lock_to(regs, frame.master);
+    }
+    if frees_lock(frame, whole) {
+        return unlock(regs);
+    }
+    regs
+}
+
+fn request_over(mut regs: Registers, code: u8) -> Registers
+    ensures { λ r. ⌜ r ≡ registers·marc code (registers·marq false regs) ⌝ }
+{
+    regs.marq = false;
+    regs.marc = code;
+    regs
+}
+
+fn sending_over(mut regs: Registers, code: u8) -> Registers
+    ensures { λ r. ⌜ r ≡ registers·strq false (registers·slrc code regs) ⌝ }
+{
+    regs.slrc = code;
+    regs.strq = false;
+    regs
+}
+
+fn reception_over(mut regs: Registers, code: u8) -> Registers
+    ensures { λ r. ⌜ r ≡ registers·slre false (registers·slrc code regs) ⌝ }
+{
+    regs.slrc = code;
+    regs.slre = false;
+    regs
+}
+
+// A master's request has ended: "normal or aborted clears MARQ ..; the end of a sending request empties TBF".
+pub(crate) fn request_ended(core: Core, whole: bool) -> Acted
+    ensures { λ r. ⌜ r ≡ requestEnded core whole ⌝ }
+{
+    let regs = core.regs;
+    if writes(regs.control) {
+        let over = request_over(regs, end_code(0, whole));
+        return core.with_regs(over).acting(Act::Empty);
+    }
+    let over = request_over(regs, end_code(4, whole));
+    core.with_regs(over).acting(Act::Nothing)
+}
+
+// A slave's sending from TBF has ended: ".. STRQ ..".
+fn sending_ended(core: Core, whole: bool) -> Acted
+    ensures { λ r. ⌜ r ≡ sendingEnded core whole ⌝ }
+{
+    let over = sending_over(core.regs, end_code(0, whole));
+    core.with_regs(over).acting(Act::Empty)
+}
+
+// The code with which a slave's reception started: 8 of a broadcast, 4 of any other.
+fn received_from(broadcast: bool) -> u8
+    ensures { λ r. ⌜ (r ≡ pick broadcast 8 4) × (r ≤ 8) ⌝ }
+{
+    if broadcast {
+        return 8;
+    }
+    4
+}
+
+// A slave's reception has ended: ".. or SLRE".
+fn reception_ended(core: Core, whole: bool) -> Acted
+    ensures { λ r. ⌜ r ≡ receptionEnded core whole ⌝ }
+{
+    let frame = core.frame;
+    let started = received_from(frame.broadcast);
+    let over = reception_over(core.regs, end_code(started, whole));
+    core.with_regs(over).acting(Act::Nothing)
+}
+
+// A slave's part in the data has ended.
+fn part_ended(core: Core, whole: bool) -> Acted
+    ensures { λ r. ⌜ r ≡ partEnded core whole ⌝ }
+{
+    let frame = core.frame;
+    if draws_bytes(frame) {
+        return sending_ended(core, whole);
+    }
+    if frame.sends {
+        return core.acting(Act::Nothing);
+    }
+    reception_ended(core, whole)
+}
+
+fn data_ended(core: Core, whole: bool) -> Acted
+    ensures { λ r. ⌜ r ≡ dataEnded core whole ⌝ }
+{
+    let regs = lock_after(core.frame, whole, core.regs);
+    part_ended(core.with_regs(regs), whole)
+}
+
+// A slave's part in the length has ended: only a sending has begun.
+fn length_ended(core: Core) -> Acted
+    ensures { λ r. ⌜ r ≡ lengthEnded core ⌝ }
+{
+    if draws_bytes(core.frame) {
+        return sending_ended(core, false);
+    }
+    core.acting(Act::Nothing)
+}
+
+// A slave's part has ended in a field. Before the length nothing has begun.
+fn slave_ended(place: Place, core: Core, whole: bool) -> Acted
+    ensures { λ r. ⌜ r ≡ slaveEnded place core whole ⌝ }
+{
+    match place {
+        Place::Waiting => core.acting(Act::Nothing),
+        Place::In(field, _) => match field {
+            Field::Broadcast => core.acting(Act::Nothing),
+            Field::Master => core.acting(Act::Nothing),
+            Field::Slave => core.acting(Act::Nothing),
+            Field::Control => core.acting(Act::Nothing),
+            Field::Length => length_ended(core),
+            Field::Data => data_ended(core, whole),
+        },
+    }
+}
+
+// "Ended before all bytes are ACKed, it aborts the request of a master in it that has not lost, .. and any sending or
+// reception begun." The frame is as it was before it ended.
+pub(crate) fn ended(core: Core, whole: bool) -> Acted
+    ensures { λ r. ⌜ r ≡ endedOf core whole ⌝ }
+{
+    let frame = core.frame;
+    if frame.leads {
+        return request_ended(core, whole);
+    }
+    let spot = frame.spot;
+    let place = spot.place;
+    slave_ended(place, core, whole)
+}
+
+// The frame has ended, or the unit has done its part.
+pub(crate) fn left(acted: Acted, frame: Frame) -> Acted
+    ensures { λ r. ⌜ r ≡ leftOf acted frame ⌝ }
+{
+    let core = acted.core;
+    acted.with_core(core.with_frame(frame))
+}
+
+// "Start or idle inside a frame ends it there".
+pub(crate) fn cut(core: Core) -> Acted
+    ensures { λ r. ⌜ r ≡ cutOf core ⌝ }
+{
+    let frame = core.frame;
+    let spot = frame.spot;
+    let place = spot.place;
+    match place {
+        Place::Waiting => core.acting(Act::Nothing),
+        Place::In(_, _) => left(ended(core, false), frame.done()),
+    }
+}

@@ -1,0 +1,343 @@
+// What a slot does to the scalars of a unit, and to its buffers.
+ghost use mathlib.Core.Path.{_≡_};
+ghost use Rattle.frame.specs.Set.{frame·byte};
+ghost use Rattle.unit.specs.Set.{core·frame, registers·losses, registers·marc, registers·rdr1, registers·rdr2};
+ghost use Rattle.unit.specs.Set.{registers·slrc};
+ghost use Rattle.unit.specs.Slots.{byteDrawn, coreDrive, countOf, counted, headerOf, lastAcked, lengthDrawn};
+ghost use Rattle.unit.specs.Slots.{nextDrawn, onAddressed, onByteAcked, onControlAcked, onEvent, onIdle};
+ghost use Rattle.unit.specs.Slots.{onLengthAcked, onLevel, onLost, onStart, otherParty, receptionBegun};
+ghost use Rattle.unit.specs.Slots.{receptionCode, sendingBegun, wanted, withByte, withCode, withCount};
+use crate::endings::cut;
+use crate::endings::draws_bytes;
+use crate::endings::ended;
+use crate::endings::left;
+use crate::endings::request_ended;
+use crate::state::Act;
+use crate::state::Acted;
+use crate::state::Core;
+use crate::state::Registers;
+use crate::state::Seen;
+use frame::place::Event;
+use frame::place::Frame;
+use frame::place::Place;
+use frame::writes;
+
+// "A start slot always begins a frame", from the state that the old frame's end left.
+pub(crate) fn on_start(core: Core, clear: bool) -> Acted
+    ensures { λ r. ⌜ r ≡ onStart core clear ⌝ }
+{
+    let after = cut(core);
+    let rest = after.core;
+    let regs = rest.regs;
+    let begun = Frame::begun(regs.takes_part(clear), regs.long);
+    after.with_core(rest.with_frame(begun).with_idle(false))
+}
+
+pub(crate) fn on_idle(core: Core) -> Acted
+    ensures { λ r. ⌜ r ≡ onIdle core ⌝ }
+{
+    let after = cut(core);
+    let rest = after.core;
+    after.with_core(rest.with_idle(true))
+}
+
+fn with_losses(mut regs: Registers, losses: u8) -> Registers
+    ensures { λ r. ⌜ r ≡ registers·losses losses regs ⌝ }
+{
+    regs.losses = losses;
+    regs
+}
+
+fn with_marc(mut regs: Registers, code: u8) -> Registers
+    ensures { λ r. ⌜ r ≡ registers·marc code regs ⌝ }
+{
+    regs.marc = code;
+    regs
+}
+
+fn with_slrc(mut regs: Registers, code: u8) -> Registers
+    ensures { λ r. ⌜ r ≡ registers·slrc code regs ⌝ }
+{
+    regs.slrc = code;
+    regs
+}
+
+fn with_rdr1(mut regs: Registers, n: u8) -> Registers
+    ensures { λ r. ⌜ r ≡ registers·rdr1 n regs ⌝ }
+{
+    regs.rdr1 = n;
+    regs
+}
+
+fn with_rdr2(mut regs: Registers, n: u8) -> Registers
+    ensures { λ r. ⌜ r ≡ registers·rdr2 n regs ⌝ }
+{
+    regs.rdr2 = n;
+    regs
+}
+
+// "After the first attempt and MCR's retries all lost, the request is aborted."
+fn on_lost(core: Core) -> Acted
+    ensures { λ r. ⌜ r ≡ onLost core ⌝ }
+{
+    let regs = core.regs;
+    if regs.losses < regs.retries {
+        let counted = with_losses(regs, regs.losses + 1);
+        return core.with_regs(counted).acting(Act::Nothing);
+    }
+    request_ended(core, false)
+}
+
+// "Master sending starts with the P slot of its own address".
+fn on_addressed(core: Core) -> Core
+    ensures { λ r. ⌜ r ≡ onAddressed core ⌝ }
+{
+    let frame = core.frame;
+    let regs = core.regs;
+    if frame.leads & writes(regs.control) {
+        return core.with_regs(with_marc(regs, 0));
+    }
+    core
+}
+
+// A code of the sending or reception under way: MARC for a master, SLRC for a slave.
+fn with_code(core: Core, code: u8) -> Core
+    ensures { λ r. ⌜ r ≡ withCode core code ⌝ }
+{
+    let frame = core.frame;
+    if frame.leads {
+        return core.with_regs(with_marc(core.regs, code));
+    }
+    core.with_regs(with_slrc(core.regs, code))
+}
+
+// "Slave sending at control ACK".
+fn sending_begun(core: Core) -> Core
+    ensures { λ r. ⌜ r ≡ sendingBegun core ⌝ }
+{
+    let frame = core.frame;
+    if frame.leads {
+        return core;
+    }
+    core.with_regs(with_slrc(core.regs, 0))
+}
+
+// "The length and each byte leave TBF as their field first begins."
+fn length_drawn(core: Core, front: u8) -> Acted
+    ensures { λ r. ⌜ r ≡ lengthDrawn core front ⌝ }
+{
+    let frame = core.frame;
+    core.with_frame(frame.with_length(front)).acting(Act::Take)
+}
+
+// The length field begins: of TBF, or "length 1 and the status byte".
+fn on_control_acked(core: Core, seen: Seen) -> Acted
+    ensures { λ r. ⌜ r ≡ onControlAcked core seen ⌝ }
+{
+    let frame = core.frame;
+    if draws_bytes(frame) {
+        return length_drawn(sending_begun(core), seen.front);
+    }
+    if frame.sends {
+        return core.with_frame(frame.with_length(1)).acting(Act::Nothing);
+    }
+    core.acting(Act::Nothing)
+}
+
+// "Wanted comes when TBF is then empty with bytes to follow".
+fn data_wanted(frame: Frame, seen: Seen) -> bool
+    ensures { λ r. ⌜ r ≡ wanted frame seen ⌝ }
+{
+    (seen.waiting <= 1) & (frame.acked % 512 + 1 < frame.length)
+}
+
+fn with_byte(mut core: Core, byte: u8) -> Core
+    ensures { λ r. ⌜ r ≡ withByte core byte ⌝ }
+{
+    core.frame.byte = byte;
+    core
+}
+
+fn byte_drawn(core: Core, seen: Seen) -> Acted
+    ensures { λ r. ⌜ r ≡ byteDrawn core seen ⌝ }
+{
+    if data_wanted(core.frame, seen) {
+        return with_code(with_byte(core, seen.front), 1).acting(Act::Take);
+    }
+    with_byte(core, seen.front).acting(Act::Take)
+}
+
+fn other_party(frame: Frame) -> u16
+    ensures { λ r. ⌜ r ≡ otherParty frame ⌝ }
+{
+    if frame.leads {
+        return frame.slave;
+    }
+    frame.master
+}
+
+// "A reception puts three bytes into RBF when length is accepted: other party's address high 8, low 4 with control,
+// length".
+fn header(frame: Frame) -> Act
+    ensures { λ r. ⌜ r ≡ headerOf frame ⌝ }
+{
+    let party = other_party(frame);
+    let high = (party / 16 % 256) as u8;
+    let low = (party % 16) as u8;
+    Act::Header(
+        high,
+        low * 16 + frame.control % 16,
+        (frame.length % 256) as u8,
+    )
+}
+
+// "Receptions at length accepted": 4 received, 8 broadcast.
+fn reception_code(frame: Frame) -> u8
+    ensures { λ r. ⌜ r ≡ receptionCode frame ⌝ }
+{
+    if !frame.leads & frame.broadcast {
+        return 8;
+    }
+    4
+}
+
+// "The RDR becomes 3 and grows by 1 per byte (RDR1 master, RDR2 slave and broadcast ..)".
+fn with_count(core: Core, n: u8) -> Core
+    ensures { λ r. ⌜ r ≡ withCount core n ⌝ }
+{
+    let frame = core.frame;
+    if frame.leads {
+        return core.with_regs(with_rdr1(core.regs, n));
+    }
+    core.with_regs(with_rdr2(core.regs, n))
+}
+
+fn count(core: Core) -> u8
+    ensures { λ r. ⌜ r ≡ countOf core ⌝ }
+{
+    let frame = core.frame;
+    let regs = core.regs;
+    if frame.leads {
+        return regs.rdr1;
+    }
+    regs.rdr2
+}
+
+fn reception_begun(core: Core) -> Acted
+    ensures { λ r. ⌜ r ≡ receptionBegun core ⌝ }
+{
+    let frame = core.frame;
+    let act = header(frame);
+    with_count(with_code(core, reception_code(frame)), 3).acting(act)
+}
+
+// The first data field begins.
+fn on_length_acked(core: Core, seen: Seen) -> Acted
+    ensures { λ r. ⌜ r ≡ onLengthAcked core seen ⌝ }
+{
+    let frame = core.frame;
+    if draws_bytes(frame) {
+        return byte_drawn(core, seen);
+    }
+    if frame.sends {
+        let regs = core.regs;
+        return with_byte(core, regs.own_byte(frame.control, seen.clear)).acting(Act::Nothing);
+    }
+    reception_begun(core)
+}
+
+// One byte more.
+fn count_more(core: Core) -> Core
+    ensures { λ r. ⌜ r ≡ counted core ⌝ }
+{
+    let bytes = count(core) as u16;
+    with_count(core, ((bytes + 1) % 256) as u8)
+}
+
+// "If TBF is empty when that byte is ACKed, sending aborts".
+fn next_drawn(core: Core, seen: Seen) -> Acted
+    ensures { λ r. ⌜ r ≡ nextDrawn core seen ⌝ }
+{
+    if seen.waiting == 0 {
+        return cut(core);
+    }
+    byte_drawn(core, seen)
+}
+
+// The next data field begins.
+fn on_byte_acked(core: Core, byte: u8, seen: Seen) -> Acted
+    ensures { λ r. ⌜ r ≡ onByteAcked core byte seen ⌝ }
+{
+    let frame = core.frame;
+    if draws_bytes(frame) {
+        return next_drawn(core, seen);
+    }
+    if frame.sends {
+        return core.acting(Act::Nothing);
+    }
+    count_more(core).acting(Act::Byte(byte))
+}
+
+// The frame ends with a byte ACKed, the last one or not. The frame is as it was before it ended.
+fn last_acked(core: Core, byte: u8, whole: bool) -> Acted
+    ensures { λ r. ⌜ r ≡ lastAcked core byte whole ⌝ }
+{
+    let frame = core.frame;
+    if frame.sends {
+        return ended(core, whole);
+    }
+    let after = ended(count_more(core), whole);
+    let rest = after.core;
+    rest.acting(Act::Byte(byte))
+}
+
+// What an event brings about, from the unit before the slot and the frame after it.
+fn on_event(event: Event, core: Core, next: Frame, seen: Seen) -> Acted
+    ensures { λ r. ⌜ r ≡ onEvent event core next seen ⌝ }
+{
+    let frame = core.frame;
+    let byte = (frame.shift % 256) as u8;
+    let moved = core.with_frame(next);
+    match event {
+        Event::Nothing => moved.acting(Act::Nothing),
+        Event::Lost => on_lost(moved),
+        Event::Addressed => on_addressed(moved).acting(Act::Nothing),
+        Event::ControlAcked => on_control_acked(moved, seen),
+        Event::LengthAcked => on_length_acked(moved, seen),
+        Event::ByteAcked => on_byte_acked(moved, byte, seen),
+        Event::AllAcked => left(last_acked(core, byte, true), next),
+        Event::ShortAcked => left(last_acked(core, byte, false), next),
+        Event::Aborted => left(ended(core, false), next),
+    }
+}
+
+pub(crate) fn on_level(core: Core, bit: bool, seen: Seen) -> Acted
+    ensures { λ r. ⌜ r ≡ onLevel core bit seen ⌝ }
+{
+    let regs = core.regs;
+    let view = regs.view(seen.clear);
+    let moved = frame::level(core.frame, bit, view);
+    let next = moved.frame;
+    let event = moved.event;
+    on_event(event, core.with_idle(false), next, seen)
+}
+
+// What the unit drives in the next slot: "0, 1 (released) or 2 (start)". "With MARQ set and idle as the latest slot,
+// the unit drives start".
+pub(crate) fn core_drive(core: Core, clear: bool) -> u8
+    ensures { λ r. ⌜ r ≡ coreDrive core clear ⌝ }
+{
+    let frame = core.frame;
+    let regs = core.regs;
+    let spot = frame.spot;
+    let place = spot.place;
+    match place {
+        Place::Waiting => {
+            if core.idle & regs.takes_part(clear) {
+                return 2;
+            }
+            1
+        }
+        Place::In(_, _) => frame::drive(frame, regs.view(clear)) as u8,
+    }
+}
