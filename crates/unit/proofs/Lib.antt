@@ -7,3 +7,4 @@ pub mod Strangers
 pub mod Protects
 pub mod Locks
 pub mod Example
+pub mod Asked
