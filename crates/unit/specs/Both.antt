@@ -117,7 +117,12 @@ WritesTo u register v t t' a =
 abbrev pub TakesOut : Lent → List ℕ → Answered → Type 0
 TakesOut u r a =
     (t : List ℕ) → bothIn a t r
-    ≡ gaveIn (record { core = u .core; tbf = circleOf tbfBytes t (u .tbf); rbf = drop 1 (circleOf rbfBytes r (u .rbf)) })
+    ≡ gaveIn (record {
+      core = u .core;
+      tbf = circleOf tbfBytes t (u .tbf);
+      rbf = drop 1 (circleOf rbfBytes r
+          (u .rbf));
+    })
     (getD (circleOf rbfBytes r (u .rbf)) 0 0)
 
 abbrev pub ReadsFrom : Lent → ℕ → List ℕ → Answered → Type 0
@@ -129,10 +134,10 @@ Tells u word t t' r a =
 
 -- ---- a word
 
--- the buffers after it have as many bytes as before; and where they are lent with all their bytes, state and answer are
--- those of the definitions
-pub record Steps (u : Lent) (word : ℕ) (t t' r r' : List ℕ) (a : Answered) : Type 0 where
+-- the buffers after it have as many bytes as before; and where they are lent with all their bytes, state and answer
+-- are those of the definitions
+pub record Runs (u : Lent) (w : ℕ) (t t' r r' : List ℕ) (a : Answered) : Type 0 where
   pub tbf-kept : length t' ≡ length t
   pub rbf-kept : length r' ≡ length r
-  pub state : length t ≡ tbfBytes → length r ≡ rbfBytes → stateIn (a .lent) t' r' ≡ stepOf (stateIn u t r) word
-  pub answer : length t ≡ tbfBytes → length r ≡ rbfBytes → a .answer ≡ answerOf (stateIn u t r) word
+  pub state : length t ≡ tbfBytes → length r ≡ rbfBytes → stateIn (a .lent) t' r' ≡ stepOf (stateIn u t r) w
+  pub answer : length t ≡ tbfBytes → length r ≡ rbfBytes → a .answer ≡ answerOf (stateIn u t r) w

@@ -1,6 +1,6 @@
 // A unit, and what it makes of every word: its scalars by value and its buffers lent, or all of it by value.
 ghost use mathlib.Core.Path.{_≡_};
-ghost use Rattle.unit.specs.Both.{Acts, Clashes, Does, Drives, Fresh, Gives, ReadsFrom, Sees, SlotsOn, Steps};
+ghost use Rattle.unit.specs.Both.{Acts, Clashes, Does, Drives, Fresh, Gives, ReadsFrom, Runs, Sees, SlotsOn};
 ghost use Rattle.unit.specs.Both.{Takes, TakesOut, Tells, Writes, WritesTo, answered, stateOf};
 ghost use Rattle.unit.specs.State.{reset};
 ghost use Rattle.unit.specs.Step.{answerOf, stepOf};
@@ -230,7 +230,12 @@ impl Lent {
             if register == 0xE {
                 return self.read_rbf(rbf);
             }
-            return self.gave(read_value(core.regs, sent.len(TBF_BYTES), stored.len(RBF_BYTES), register));
+            return self.gave(read_value(
+                core.regs,
+                sent.len(TBF_BYTES),
+                stored.len(RBF_BYTES),
+                register,
+            ));
         }
         self.refused(number)
     }
@@ -258,7 +263,7 @@ impl Lent {
 
     // The unit after a word, and what it is answered; its buffers are lent.
     pub fn step(self, word: u32, tbf: &mut [u8; TBF_BYTES], rbf: &mut [u8; RBF_BYTES]) -> Answered
-        ensures { λ r. ⌜ Steps self word (now (tbf .entry)) (now (tbf .exit)) (now (rbf .entry)) (now (rbf .exit)) r ⌝ }
+        ensures { λ r. ⌜ Runs self word (now (tbf .entry)) (now (tbf .exit)) (now (rbf .entry)) (now (rbf .exit)) r ⌝ }
     {
         if word / 0x1000_0000 == KIND_SLOT {
             return self.slot(slot_of(word), tbf, rbf);

@@ -29,11 +29,12 @@ element-write-bytes c =
 returns-2 : tie.Need-returns-2
 unfolding circleOf
 returns-2 c =
-    let a = c .before .before .before .args in
-    (length-set (a .bytes .now) _ _,
-    λ full. rw (c .behind .ensures, c .before .start .ensures)
-    (circle-push rbfBytes (a .bytes .now) (a .span .first) (a .span .count) (a .byte) full
-    (c .before .before .if1 .left)))
+    let a = c .before .before .before .args in (
+      length-set (a .bytes .now) _ _,
+      λ full. rw (c .behind .ensures, c .before .start .ensures)
+          (circle-push rbfBytes (a .bytes .now) (a .span .first) (a .span .count) (a .byte) full
+          (c .before .before .if1 .left)),
+    )
 
 pub rbf-push-spec : {M : Type 1} → statement M
 rbf-push-spec =

@@ -19,7 +19,8 @@ unfolding circleOf
 returns-2 c =
     let a = c .before .before .before .args in
     rw (c .before .start .ensures)
-    (circle-front tbfBytes (a .bytes .now) (startOf tbfBytes (a .span .first)) (a .span .count) (omega arith) (omega arith))
+    (circle-front tbfBytes (a .bytes .now) (startOf tbfBytes (a .span .first)) (a .span .count) (omega arith)
+    (omega arith))
 
 pub tbf-front-spec : {M : Type 1} → statement M
 tbf-front-spec = tie.close (tie.spec returns (λ c κs. search needs) element-copy-out-result returns-2)
