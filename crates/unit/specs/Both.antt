@@ -1,34 +1,32 @@
--- A unit of the code as a state and, for what its functions promise each other, the state after a word together with
--- the answer.
+-- A unit of the code as a state, with its buffers lent or held; and, for what its functions promise each other, the
+-- state after a word together with the answer.
 use Prim.Native.Nat.{ℕ}
+use mathlib.Core.Bool.{Bool}
 use mathlib.Core.List.{List}
+use mathlib.Core.Path.{_≡_}
+use lib.ListN.{drop, getD, length}
+use Rattle.line.specs.Numbers.{rbfBytes, tbfBytes}
 use Rattle.line.specs.declared.slot.Slot.{Slot}
 use Rattle.unit.specs.declared.answer.Answer.{Answer}
 use Rattle.unit.specs.declared.answer.Answer.the-variants.{Given, Refused}
 use Rattle.unit.specs.declared.answer.Reply.the-variants.{Taken, Written, Read}
-use Rattle.unit.specs.declared.buffers.Rbf.{Rbf}
-use Rattle.unit.specs.declared.buffers.Tbf.{Tbf}
-use Rattle.unit.specs.declared.state.Core.{Core}
-use Rattle.unit.specs.declared.step.Stepped.{Stepped}
+use Rattle.unit.specs.declared.state.Acted.{Acted}
+use Rattle.unit.specs.declared.state.Seen.{Seen}
+use Rattle.unit.specs.declared.step.Answered.{Answered}
+use Rattle.unit.specs.declared.step.Lent.{Lent}
 use Rattle.unit.specs.declared.step.Unit.{Unit}
-use Rattle.unit.specs.Queue.{tbfOf, rbfOf}
+use Rattle.unit.specs.Queue.{circleOf, tbfOf, rbfOf}
 use Rattle.unit.specs.Registers.{Told, toldOf, readTold, writeDone, writeTold}
-use Rattle.unit.specs.State.{State}
-use Rattle.unit.specs.Step.{driveOf, slotOn, slotSaid, toldOn, toldSaid}
+use Rattle.unit.specs.State.{State, reset, seenOf}
+use Rattle.unit.specs.Step.{actedOn, answerOf, clashes, driveOf, slotOn, slotSaid, stepOf, toldOn, toldSaid}
 
+-- a unit whose buffers are lent: the bytes of TBF and of RBF
+abbrev pub stateIn : Lent → List ℕ → List ℕ → State
+stateIn u t r = record { core = u .core; tbf = circleOf tbfBytes t (u .tbf); rbf = circleOf rbfBytes r (u .rbf) }
+
+-- a unit that holds its buffers
 abbrev pub stateOf : Unit → State
 stateOf u = record { core = u .core; tbf = tbfOf (u .tbf); rbf = rbfOf (u .rbf) }
-
--- ---- one field replaced
-
-abbrev pub unit·core : Core → Unit → Unit
-unit·core x u = record { core = x; tbf = u .tbf; rbf = u .rbf }
-
-abbrev pub unit·tbf : Tbf → Unit → Unit
-unit·tbf x u = record { core = u .core; tbf = x; rbf = u .rbf }
-
-abbrev pub unit·rbf : Rbf → Unit → Unit
-unit·rbf x u = record { core = u .core; tbf = u .tbf; rbf = x }
 
 -- ---- a state and an answer
 
@@ -36,8 +34,8 @@ pub record Both : Type 0 where
   pub state : State
   pub answer : Answer
 
-abbrev pub bothOf : Stepped → Both
-bothOf r = record { state = stateOf (r .unit); answer = r .answer }
+abbrev pub bothIn : Answered → List ℕ → List ℕ → Both
+bothIn a t r = record { state = stateIn (a .lent) t r; answer = a .answer }
 
 abbrev pub refusedIn : State → ℕ → Both
 refusedIn s number = record { state = s; answer = Refused number }
@@ -68,3 +66,78 @@ afterRead s register = afterTold s (readTold (s .core .regs) (s .tbf) (s .rbf) r
 
 abbrev pub afterHost : State → ℕ → Both
 afterHost s word = afterTold s (toldOf (s .core .regs) (s .tbf) (s .rbf) word)
+
+abbrev pub answered : Lent → Answer → Answered
+answered u a = record { lent = u; answer = a }
+
+-- ---- what the functions of a unit whose buffers are lent promise, over any bytes that they are not lent
+
+abbrev pub Fresh : Lent → Type 0
+Fresh u = (t r : List ℕ) → stateIn u t r ≡ reset
+
+abbrev pub Drives : Lent → ℕ → Type 0
+Drives u drive = (t r : List ℕ) → drive ≡ driveOf (stateIn u t r)
+
+abbrev pub Sees : Lent → List ℕ → Seen → Type 0
+Sees u t seen = (r : List ℕ) → seen ≡ seenOf (circleOf tbfBytes t (u .tbf)) (circleOf rbfBytes r (u .rbf))
+
+abbrev pub Clashes : Lent → Bool → Bool → Type 0
+Clashes u bit clash = (t r : List ℕ) → clash ≡ clashes (stateIn u t r) bit
+
+abbrev pub Takes : Lent → Answered → Type 0
+Takes u a = (t r : List ℕ) → bothIn a t r ≡ takenIn (stateIn u t r)
+
+abbrev pub Writes : Lent → Answered → Type 0
+Writes u a = (t r : List ℕ) → bothIn a t r ≡ writtenIn (stateIn u t r)
+
+abbrev pub Gives : Lent → ℕ → Answered → Type 0
+Gives u value a = (t r : List ℕ) → bothIn a t r ≡ gaveIn (stateIn u t r) value
+
+-- RBF before and after: where it is lent with all its bytes, and none is lost or added
+abbrev pub Acts : Lent → Acted → List ℕ → List ℕ → Answered → Type 0
+Acts u acted r r' a =
+    (length r' ≡ length r)
+    × ((t : List ℕ) → length r ≡ rbfBytes → bothIn a t r' ≡ takenIn (actedOn (stateIn u t r) acted))
+
+abbrev pub SlotsOn : Lent → Slot → List ℕ → List ℕ → List ℕ → Answered → Type 0
+SlotsOn u c t r r' a =
+    (length r' ≡ length r) × (length r ≡ rbfBytes → bothIn a t r' ≡ afterSlot (stateIn u t r) c)
+
+-- TBF before and after
+abbrev pub Does : Lent → ℕ → ℕ → List ℕ → List ℕ → Answered → Type 0
+Does u register v t t' a =
+    (length t' ≡ length t)
+    × ((r : List ℕ) → length t ≡ tbfBytes → bothIn a t' r ≡ afterDone (stateIn u t r) register v)
+
+abbrev pub WritesTo : Lent → ℕ → ℕ → List ℕ → List ℕ → Answered → Type 0
+WritesTo u register v t t' a =
+    (length t' ≡ length t)
+    × ((r : List ℕ) → length t ≡ tbfBytes → bothIn a t' r ≡ afterWrite (stateIn u t r) register v)
+
+abbrev pub TakesOut : Lent → List ℕ → Answered → Type 0
+TakesOut u r a =
+    (t : List ℕ) → bothIn a t r
+    ≡ gaveIn (record {
+      core = u .core;
+      tbf = circleOf tbfBytes t (u .tbf);
+      rbf = drop 1 (circleOf rbfBytes r
+          (u .rbf));
+    })
+    (getD (circleOf rbfBytes r (u .rbf)) 0 0)
+
+abbrev pub ReadsFrom : Lent → ℕ → List ℕ → Answered → Type 0
+ReadsFrom u register r a = (t : List ℕ) → bothIn a t r ≡ afterRead (stateIn u t r) register
+
+abbrev pub Tells : Lent → ℕ → List ℕ → List ℕ → List ℕ → Answered → Type 0
+Tells u word t t' r a =
+    (length t' ≡ length t) × (length t ≡ tbfBytes → bothIn a t' r ≡ afterHost (stateIn u t r) word)
+
+-- ---- a word
+
+-- the buffers after it have as many bytes as before; and where they are lent with all their bytes, state and answer
+-- are those of the definitions
+pub record Runs (u : Lent) (w : ℕ) (t t' r r' : List ℕ) (a : Answered) : Type 0 where
+  pub tbf-kept : length t' ≡ length t
+  pub rbf-kept : length r' ≡ length r
+  pub state : length t ≡ tbfBytes → length r ≡ rbfBytes → stateIn (a .lent) t' r' ≡ stepOf (stateIn u t r) w
+  pub answer : length t ≡ tbfBytes → length r ≡ rbfBytes → a .answer ≡ answerOf (stateIn u t r) w

@@ -1,14 +1,17 @@
--- The buffers of the code as lists: each is a circle of bytes, with a first place and a count. And a unit of the code
--- as a state.
+-- The buffers of the code as lists: each is a circle of bytes, and a span says where its bytes lie.
 use Prim.Native.Nat.{ℕ, zero, suc, _+_, _-_}
 use mathlib.Core.Bool.{Bool}
 use mathlib.Core.List.{List, [], _∷_}
+use mathlib.Core.Path.{_≡_}
 use lib.Dec.{ltb}
-use lib.ListN.{getD}
+use lib.ListN.{drop, getD, length}
 use Rattle.line.specs.Choice.{pick}
 use Rattle.line.specs.Numbers.{rbfBytes, tbfBytes}
 use Rattle.unit.specs.declared.buffers.Rbf.{Rbf}
+use Rattle.unit.specs.declared.buffers.Span.{Span}
 use Rattle.unit.specs.declared.buffers.Tbf.{Tbf}
+use Rattle.unit.specs.declared.state.Act.{Act}
+use Rattle.unit.specs.State.{isEmpty, pushOf, rbfAfter, tbfAfter}
 
 -- a place in a circle of so many places, for places below twice as many
 abbrev pub wrap : ℕ → ℕ → ℕ
@@ -27,9 +30,42 @@ unfoldable pub items : ℕ → List ℕ → ℕ → ℕ → List ℕ
 items room bytes place zero = []
 items room bytes place (suc count) = getD bytes place 0 ∷ items room bytes (wrap room (place + 1)) count
 
--- the buffers as lists, oldest first
-unfoldable pub tbfOf : Tbf → List ℕ
-tbfOf t = items tbfBytes (t .bytes) (startOf tbfBytes (t .first)) (heldOf tbfBytes (t .count))
+-- the bytes that a span says, oldest first
+unfoldable pub circleOf : ℕ → List ℕ → Span → List ℕ
+circleOf room bytes span = items room bytes (startOf room (span .first)) (heldOf room (span .count))
 
-unfoldable pub rbfOf : Rbf → List ℕ
-rbfOf r = items rbfBytes (r .bytes) (startOf rbfBytes (r .first)) (heldOf rbfBytes (r .count))
+abbrev pub tbfOf : Tbf → List ℕ
+tbfOf t = circleOf tbfBytes (t .bytes) (t .span)
+
+abbrev pub rbfOf : Rbf → List ℕ
+rbfOf r = circleOf rbfBytes (r .bytes) (r .span)
+
+-- ---- what does not rest on the bytes
+
+abbrev pub Vacant : ℕ → Span → Type 0
+Vacant room span = (bytes : List ℕ) → circleOf room bytes span ≡ []
+
+abbrev pub Length : ℕ → Span → ℕ → Type 0
+Length room span n = (bytes : List ℕ) → n ≡ length (circleOf room bytes span)
+
+abbrev pub Clear : ℕ → Span → Bool → Type 0
+Clear room span clear = (bytes : List ℕ) → clear ≡ isEmpty (circleOf room bytes span)
+
+abbrev pub Popped : ℕ → Span → Span → Type 0
+Popped room span next = (bytes : List ℕ) → circleOf room bytes next ≡ drop 1 (circleOf room bytes span)
+
+abbrev pub SentAfter : Act → Span → Span → Type 0
+SentAfter act span next =
+    (bytes : List ℕ) → circleOf tbfBytes bytes next ≡ tbfAfter act (circleOf tbfBytes bytes span)
+
+-- ---- what does, where the bytes are as many as the room: none is lost or added
+
+abbrev pub Pushes : ℕ → Span → ℕ → List ℕ → List ℕ → Span → Type 0
+Pushes room span byte before after next =
+    (length after ≡ length before)
+    × (length before ≡ room → circleOf room after next ≡ pushOf room (circleOf room before span) byte)
+
+abbrev pub StoredAfter : Act → Span → List ℕ → List ℕ → Span → Type 0
+StoredAfter act span before after next =
+    (length after ≡ length before)
+    × (length before ≡ rbfBytes → circleOf rbfBytes after next ≡ rbfAfter act (circleOf rbfBytes before span))

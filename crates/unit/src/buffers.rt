@@ -1,28 +1,32 @@
-// The two buffers, each a circle of bytes: a first place and a count. A count over the room counts as full, and a
-// first place past the end as place 0, so that every value is a buffer. The contracts speak of lists, oldest first.
-ghost use mathlib.Core.Path.{_≡_};
+// The two buffers, each a circle of bytes, and a span that says where its bytes lie: a first place and a count. A
+// count over the room counts as full, and a first place past the end as place 0, so that every value is a buffer. The
+// contracts speak of lists, oldest first.
 ghost use mathlib.Core.List.{[]};
-ghost use lib.ListN.{drop, getD, length};
+ghost use mathlib.Core.Path.{_≡_};
+ghost use lib.ListN.{getD, length};
 ghost use Prim.Native.Nat.{_+_, _<_, _≤_};
 ghost use Rattle.line.specs.Numbers.{rbfBytes, tbfBytes};
+ghost use Rattle.unit.specs.Queue.{Clear, Length, Popped, Pushes, SentAfter, StoredAfter, Vacant, circleOf};
 ghost use Rattle.unit.specs.Queue.{heldOf, rbfOf, startOf, tbfOf, wrap};
-ghost use Rattle.unit.specs.State.{isEmpty, pushOf, rbfAfter, tbfAfter};
 use crate::state::Act;
 use line::numbers::RBF_BYTES;
 use line::numbers::TBF_BYTES;
 
+pub struct Span {
+    pub first: usize,
+    pub count: usize,
+}
+
 // "TBF, 33 bytes".
 pub struct Tbf {
     pub bytes: [u8; TBF_BYTES],
-    pub first: usize,
-    pub count: usize,
+    pub span: Span,
 }
 
 // "RBF, 40 bytes".
 pub struct Rbf {
     pub bytes: [u8; RBF_BYTES],
-    pub first: usize,
-    pub count: usize,
+    pub span: Span,
 }
 
 // How many of a count are held where there is room for so many.
@@ -57,82 +61,142 @@ fn behind(room: usize, place: usize, places: usize) -> usize
     far - room
 }
 
-impl Tbf {
-    pub fn new() -> Tbf
-        ensures { λ r. ⌜ tbfOf r ≡ [] ⌝ }
+impl Span {
+    pub(crate) fn none() -> Span
+        ensures { λ r. ⌜ Vacant tbfBytes r × Vacant rbfBytes r ⌝ }
     {
-        Tbf {
-            bytes: [0u8; TBF_BYTES],
-            first: 0,
-            count: 0,
-        }
+        Span { first: 0, count: 0 }
     }
 
-    pub fn emptied(mut self) -> Tbf
-        ensures { λ r. ⌜ tbfOf r ≡ [] ⌝ }
+    pub(crate) fn len(self, room: usize) -> usize
+        ensures { λ r. ⌜ Length room self r ⌝ }
     {
-        self.count = 0;
-        self
+        held(room, self.count)
     }
 
-    pub fn len(self) -> usize
-        ensures { λ r. ⌜ r ≡ length (tbfOf self) ⌝ }
+    pub(crate) fn is_empty(self, room: usize) -> bool
+        ensures { λ r. ⌜ Clear room self r ⌝ }
     {
-        held(TBF_BYTES, self.count)
-    }
-
-    // The oldest byte; 0 where there is none.
-    pub fn front(self) -> u8
-        ensures { λ r. ⌜ r ≡ getD (tbfOf self) 0 0 ⌝ }
-    {
-        let count = self.count;
-        if count == 0 {
-            return 0;
-        }
-        let at = start(TBF_BYTES, self.first);
-        self.bytes[at]
-    }
-
-    // A byte behind the others, where there is room.
-    pub fn push(mut self, byte: u8) -> Tbf
-        ensures { λ r. ⌜ tbfOf r ≡ pushOf tbfBytes (tbfOf self) byte ⌝ }
-    {
-        let count = self.count;
-        if TBF_BYTES <= count {
-            return self;
-        }
-        let first = start(TBF_BYTES, self.first);
-        let at = behind(TBF_BYTES, first, count);
-        self.bytes[at] = byte;
-        self.count = count + 1;
-        self
+        self.len(room) == 0
     }
 
     // Without the oldest byte.
-    pub fn popped(mut self) -> Tbf
-        ensures { λ r. ⌜ tbfOf r ≡ drop 1 (tbfOf self) ⌝ }
+    pub(crate) fn popped(mut self, room: usize) -> Span
+        requires { ⌜ (1 < room) × (room ≤ rbfBytes) ⌝ }
+        ensures { λ r. ⌜ Popped room self r ⌝ }
     {
-        let count = held(TBF_BYTES, self.count);
+        let count = held(room, self.count);
         if count == 0 {
             return self;
         }
-        let first = start(TBF_BYTES, self.first);
-        let next = behind(TBF_BYTES, first, 1);
+        let first = start(room, self.first);
+        let next = behind(room, first, 1);
         self.first = next;
         self.count = count - 1;
         self
     }
+}
 
-    pub(crate) fn after(self, act: Act) -> Tbf
-        ensures { λ r. ⌜ tbfOf r ≡ tbfAfter act (tbfOf self) ⌝ }
-    {
-        match act {
-            Act::Nothing => self,
-            Act::Take => self.popped(),
-            Act::Empty => self.emptied(),
-            Act::Header(_, _, _) => self,
-            Act::Byte(_) => self,
+// The oldest byte of TBF; 0 where there is none.
+pub(crate) fn tbf_front(bytes: &[u8; TBF_BYTES], span: Span) -> u8
+    ensures { λ r. ⌜ r ≡ getD (circleOf tbfBytes (now (bytes .entry)) span) 0 0 ⌝ }
+{
+    let count = span.count;
+    if count == 0 {
+        return 0;
+    }
+    let at = start(TBF_BYTES, span.first);
+    bytes[at]
+}
+
+// A byte behind the others of TBF, where there is room.
+pub(crate) fn tbf_push(bytes: &mut [u8; TBF_BYTES], mut span: Span, byte: u8) -> Span
+    ensures { λ r. ⌜ Pushes tbfBytes span byte (now (bytes .entry)) (now (bytes .exit)) r ⌝ }
+{
+    let count = span.count;
+    if TBF_BYTES <= count {
+        return span;
+    }
+    let first = start(TBF_BYTES, span.first);
+    let at = behind(TBF_BYTES, first, count);
+    bytes[at] = byte;
+    span.count = count + 1;
+    span
+}
+
+// The oldest byte of RBF; 0 where there is none.
+pub(crate) fn rbf_front(bytes: &[u8; RBF_BYTES], span: Span) -> u8
+    ensures { λ r. ⌜ r ≡ getD (circleOf rbfBytes (now (bytes .entry)) span) 0 0 ⌝ }
+{
+    let count = span.count;
+    if count == 0 {
+        return 0;
+    }
+    let at = start(RBF_BYTES, span.first);
+    bytes[at]
+}
+
+// A byte behind the others of RBF, where there is room.
+pub(crate) fn rbf_push(bytes: &mut [u8; RBF_BYTES], mut span: Span, byte: u8) -> Span
+    ensures { λ r. ⌜ Pushes rbfBytes span byte (now (bytes .entry)) (now (bytes .exit)) r ⌝ }
+{
+    let count = span.count;
+    if RBF_BYTES <= count {
+        return span;
+    }
+    let first = start(RBF_BYTES, span.first);
+    let at = behind(RBF_BYTES, first, count);
+    bytes[at] = byte;
+    span.count = count + 1;
+    span
+}
+
+// What a slot does to TBF.
+pub(crate) fn tbf_after(act: Act, span: Span) -> Span
+    ensures { λ r. ⌜ SentAfter act span r ⌝ }
+{
+    match act {
+        Act::Nothing => span,
+        Act::Take => span.popped(TBF_BYTES),
+        Act::Empty => Span::none(),
+        Act::Header(_, _, _) => span,
+        Act::Byte(_) => span,
+    }
+}
+
+// What a slot does to RBF.
+pub(crate) fn rbf_after(act: Act, bytes: &mut [u8; RBF_BYTES], span: Span) -> Span
+    ensures { λ r. ⌜ StoredAfter act span (now (bytes .entry)) (now (bytes .exit)) r ⌝ }
+{
+    match act {
+        Act::Nothing => span,
+        Act::Take => span,
+        Act::Empty => span,
+        Act::Header(a, b, c) => {
+            let one = rbf_push(bytes, span, a);
+            let two = rbf_push(bytes, one, b);
+            rbf_push(bytes, two, c)
         }
+        Act::Byte(b) => rbf_push(bytes, span, b),
+    }
+}
+
+impl Tbf {
+    pub fn new() -> Tbf
+        ensures { λ r. ⌜ tbfOf r ≡ [] ⌝ }
+    {
+        let span = Span::none();
+        Tbf {
+            bytes: [0u8; TBF_BYTES],
+            span,
+        }
+    }
+
+    // Its bytes, to be lent.
+    pub(crate) fn circle(self) -> [u8; TBF_BYTES]
+        ensures { λ r. ⌜ (r ≡ self .bytes) × (length r ≡ tbfBytes) ⌝ }
+    {
+        self.bytes
     }
 }
 
@@ -140,76 +204,17 @@ impl Rbf {
     pub fn new() -> Rbf
         ensures { λ r. ⌜ rbfOf r ≡ [] ⌝ }
     {
+        let span = Span::none();
         Rbf {
             bytes: [0u8; RBF_BYTES],
-            first: 0,
-            count: 0,
+            span,
         }
     }
 
-    pub fn len(self) -> usize
-        ensures { λ r. ⌜ r ≡ length (rbfOf self) ⌝ }
+    // Its bytes, to be lent.
+    pub(crate) fn circle(self) -> [u8; RBF_BYTES]
+        ensures { λ r. ⌜ (r ≡ self .bytes) × (length r ≡ rbfBytes) ⌝ }
     {
-        held(RBF_BYTES, self.count)
-    }
-
-    pub fn is_empty(self) -> bool
-        ensures { λ r. ⌜ r ≡ isEmpty (rbfOf self) ⌝ }
-    {
-        self.len() == 0
-    }
-
-    // The oldest byte; 0 where there is none.
-    pub fn front(self) -> u8
-        ensures { λ r. ⌜ r ≡ getD (rbfOf self) 0 0 ⌝ }
-    {
-        let count = self.count;
-        if count == 0 {
-            return 0;
-        }
-        let at = start(RBF_BYTES, self.first);
-        self.bytes[at]
-    }
-
-    // A byte behind the others, where there is room.
-    pub fn push(mut self, byte: u8) -> Rbf
-        ensures { λ r. ⌜ rbfOf r ≡ pushOf rbfBytes (rbfOf self) byte ⌝ }
-    {
-        let count = self.count;
-        if RBF_BYTES <= count {
-            return self;
-        }
-        let first = start(RBF_BYTES, self.first);
-        let at = behind(RBF_BYTES, first, count);
-        self.bytes[at] = byte;
-        self.count = count + 1;
-        self
-    }
-
-    // Without the oldest byte.
-    pub fn popped(mut self) -> Rbf
-        ensures { λ r. ⌜ rbfOf r ≡ drop 1 (rbfOf self) ⌝ }
-    {
-        let count = held(RBF_BYTES, self.count);
-        if count == 0 {
-            return self;
-        }
-        let first = start(RBF_BYTES, self.first);
-        let next = behind(RBF_BYTES, first, 1);
-        self.first = next;
-        self.count = count - 1;
-        self
-    }
-
-    pub(crate) fn after(self, act: Act) -> Rbf
-        ensures { λ r. ⌜ rbfOf r ≡ rbfAfter act (rbfOf self) ⌝ }
-    {
-        match act {
-            Act::Nothing => self,
-            Act::Take => self,
-            Act::Empty => self,
-            Act::Header(a, b, c) => self.push(a).push(b).push(c),
-            Act::Byte(b) => self.push(b),
-        }
+        self.bytes
     }
 }

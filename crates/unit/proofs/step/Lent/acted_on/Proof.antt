@@ -1,0 +1,19 @@
+use mathlib.Core.Path.{refl, _∙_}
+use borrow.Author.Needs.{needs}
+use Rattle.unit.proofs.step.Lent.acted_on.Statement.{statement}
+use Rattle.unit.proofs.step.Lent.acted_on.Tie as tie
+
+pub acted-on-spec : {M : Type 1} → statement M
+acted-on-spec =
+    tie.close
+    (tie.spec
+    (λ c κs. search needs)
+    (λ c κs. search needs)
+    (λ c κs. search needs)
+    (λ c. (
+      c .before .rbf-after .ensures .0,
+      λ t full. c .taken .ensures t _ ∙ rw (
+        c .before .before .before .tbf-after .ensures t,
+        c .before .rbf-after .ensures .1 full,
+      ) refl,
+    )))
