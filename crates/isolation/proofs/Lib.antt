@@ -3,3 +3,4 @@ pub mod Appended
 pub mod Unwinding
 pub mod Unwind
 pub mod Ends
+pub mod Smallest
