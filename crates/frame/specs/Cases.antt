@@ -13,7 +13,7 @@ use Rattle.line.specs.Parity
 use Rattle.frame.specs.Frame.{begunOf, doneOf, lengthOf, limitOf, nextOf, shiftOf, shiftedOf, toField}
 use Rattle.frame.specs.Frame.{withLength}
 use Rattle.frame.specs.Slaves.{acceptedOf, addressedOf, byValue, controlOf, openTo, strangerOf, writesOf}
-use Rattle.frame.specs.Drive.{answerOf, driveIn, driveOf, sentOf}
+use Rattle.frame.specs.Drive.{repliedOf, driveIn, driveOf, sentOf}
 use Rattle.frame.specs.Masters.{clashOf, contestedOf, lostOf, ownBit}
 use Rattle.frame.specs.Step.{ackedOf, afterAck, againOf, atBroadcast, atControl, atData, atField, atLength}
 use Rattle.frame.specs.Step.{atMaster}
@@ -78,7 +78,7 @@ pub frame-cases : allGiven (lineCases ++ frameCases) ≡ true
 unfolding allGiven lineCases frameCases parityOf ones onesIn lossesOf lossOf settled remaining numberOf firstPlace
     levelsOf Parity.levelOf parityHolds lengthOf slotsTaken begunOf limitOf doneOf nextOf shiftOf shiftedOf toField
     withLength
-    acceptedOf addressedOf byValue controlOf openTo strangerOf writesOf answerOf driveIn driveOf sentOf clashOf
+    acceptedOf addressedOf byValue controlOf openTo strangerOf writesOf repliedOf driveIn driveOf sentOf clashOf
     contestedOf
     lostOf ownBit ackedOf afterAck againOf atBroadcast atControl atData atField atLength atMaster atSlave
     controlJudged

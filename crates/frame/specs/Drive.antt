@@ -18,18 +18,18 @@ sentOf width value n =
     pick (ltb n width) (eqb (levelOf (width - 1 - n) value) 1) (pick (eqb n width) (eqb (parityOf value) 1) true)
 
 -- a field that it does not send: "A is 0 for ACK", and a broadcast has none
-unfoldable pub answerOf : Frame → ℕ → ℕ → Bool
-answerOf f width n = leb n width || not (f .ack) || f .broadcast
+unfoldable pub repliedOf : Frame → ℕ → ℕ → Bool
+repliedOf f width n = leb n width || not (f .ack) || f .broadcast
 
 -- the header is sent by the master, each field cut to its width, the length and the data by whoever sends
 unfoldable pub driveIn : Frame → Field → ℕ → View → Bool
 driveIn f Broadcast n v = not (f .leads) || v .bit
 driveIn f Master n v = pick (f .leads) (sentOf (widthOf Master) (v .own % 4096) n) true
-driveIn f Slave n v = pick (f .leads) (sentOf (widthOf Slave) (v .slave % 4096) n) (answerOf f (widthOf Slave) n)
+driveIn f Slave n v = pick (f .leads) (sentOf (widthOf Slave) (v .slave % 4096) n) (repliedOf f (widthOf Slave) n)
 driveIn f Control n v = pick (f .leads) (sentOf (widthOf Control) (v .control % 16) n)
-    (answerOf f (widthOf Control) n)
-driveIn f Length n v = pick (f .sends) (sentOf (widthOf Length) (f .byte) n) (answerOf f (widthOf Length) n)
-driveIn f Data n v = pick (f .sends) (sentOf (widthOf Data) (f .byte) n) (answerOf f (widthOf Data) n)
+    (repliedOf f (widthOf Control) n)
+driveIn f Length n v = pick (f .sends) (sentOf (widthOf Length) (f .byte) n) (repliedOf f (widthOf Length) n)
+driveIn f Data n v = pick (f .sends) (sentOf (widthOf Data) (f .byte) n) (repliedOf f (widthOf Data) n)
 
 abbrev pub driveAt : Frame → Place → View → Bool
 driveAt f Waiting v = true

@@ -11,9 +11,8 @@ use Rattle.frame.specs.declared.judging.Judged.the-variants.{Nak, Sends,
 use Rattle.frame.specs.declared.place.Frame.{Frame}
 use Rattle.frame.specs.declared.place.View.{View}
 
--- "Individual: ACK after the slave address if it is the unit's own and both parities hold. Group broadcast: same top
--- four
--- address bits; FFFH is general."
+-- "Individual: ACK after the slave address if it is the unit's own and both parities hold. Group broadcast: same
+-- top four address bits; FFFH is general."
 unfoldable pub addressedOf : Frame → ℕ → ℕ → Bool → Bool
 addressedOf f address own held =
     f .sound && held

@@ -31,8 +31,7 @@ oneBit f field n bit = moved Nothing (shiftedOf f field n bit)
 -- ---- P and A
 
 -- "An ACK is what the unit itself drives, or, awaited from another, the settled level"; "except in a broadcast,
--- where A is
--- ignored"
+-- where A is ignored"
 unfoldable pub heardOf : Frame → Bool → Bool
 heardOf f bit = f .broadcast || not bit
 

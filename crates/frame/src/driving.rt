@@ -1,7 +1,7 @@
 // What the unit drives in the next slot inside a frame.
 ghost use mathlib.Core.Path.{_≡_};
 ghost use Prim.Native.Nat.{_≤_};
-ghost use Rattle.frame.specs.Drive.{answerOf, driveOf, driveIn, sentOf};
+ghost use Rattle.frame.specs.Drive.{repliedOf, driveOf, driveIn, sentOf};
 use crate::place::Field;
 use crate::place::Frame;
 use crate::place::Place;
@@ -24,7 +24,7 @@ fn sent(width: u8, value: u16, n: u8) -> bool
 
 // A field that the unit does not send: released, and 0 for its ACK, which a broadcast has none of.
 fn answer(frame: Frame, width: u8, n: u8) -> bool
-    ensures { λ r. ⌜ r ≡ answerOf frame width n ⌝ }
+    ensures { λ r. ⌜ r ≡ repliedOf frame width n ⌝ }
 {
     (n <= width) | !frame.ack | frame.broadcast
 }

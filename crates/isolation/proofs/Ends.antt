@@ -1,6 +1,6 @@
 -- What follows for a machine that protects the holder of its lock: a word that is struck changes nothing that is
--- seen,
--- and the lock, where what is seen tells whom it names, goes on as long in both lists and ends at like places.
+-- seen, and the lock, where what is seen tells whom it names, goes on as long in both lists and ends at like
+-- places.
 use mathlib.Core.Bool.{Bool, true, false, false≢true}
 use mathlib.Core.Logic.{_⊎_, inl, inr}
 use mathlib.Core.Path.{_≡_, refl, sym, ap, _∙_}
@@ -69,7 +69,7 @@ module _ (M : Machine) (protects : Protected M) (h : ℕ) (s : M .State) where
   -- a word that is not kept changes nothing that is seen
   pub struck-unseen : (A : List ℕ) → M .waiting s → spaced false (map classOf A) ≡ true → (i : ℕ)
       → Compared M h s A (suc i) → getD (keeps h A) i false ≡ false
-      → M .seen (run M s (take i A)) ≡ M .seen (run M s (take (suc i) A))
+      → M .observed (run M s (take i A)) ≡ M .observed (run M s (take (suc i) A))
   unfolding Protected
   struck-unseen A v g i c e =
       let given : Given M h s A A = record { waits = v; spaced-first = g; spaced-second = g; same = refl } in
@@ -79,13 +79,13 @@ module _ (M : Machine) (protects : Protected M) (h : ℕ) (s : M .State) where
   module _ (A B : List ℕ) (given : Given M h s A B) (i j : ℕ) (a : Compared M h s A (suc i)) where
     -- after the words at like places the states are seen alike, also if the lock ends with them
     pub after-alike : Places h A B i j → Compared M h s B (suc j)
-        → M .seen (run M s (take (suc i) A)) ≡ M .seen (run M s (take (suc j) B))
+        → M .observed (run M s (take (suc i) A)) ≡ M .observed (run M s (take (suc j) B))
     unfolding Protected
     after-alike x b =
         let n = count-set (keeps h A) i (x .first) ∙ ap suc (x .behind) ∙ sym (count-set (keeps h B) j (x .second)) in
         protects h s A B given .states (suc i) (suc j) n a b
 
-    module _ (tells : (t u : M .State) → M .seen t ≡ M .seen u → M .lockedTo h t → M .lockedTo h u) where
+    module _ (tells : (t u : M .State) → M .observed t ≡ M .observed u → M .lockedTo h t → M .lockedTo h u) where
       -- if the lock does not end with the one, it does not end with the other
       pub ends-alike : Places h A B i j → Compared M h s B (suc j) → M .lockedTo h (run M s (take (suc i) A))
           → M .lockedTo h (run M s (take (suc j) B))

@@ -375,7 +375,7 @@ module _ (M : Machine) (h : ℕ) (U : Unwinding M h) (s : M .State) (A B : List 
     (i j : ℕ) where
   -- behind equally many kept words the states are seen alike
   states-alike : Behind h A B i j → Compared M h s A i → Compared M h s B j
-      → M .seen (run M s (take i A)) ≡ M .seen (run M s (take j B))
+      → M .observed (run M s (take i A)) ≡ M .observed (run M s (take j B))
   states-alike n a b =
       let x = list-keep M h U s A (given .waits) (given .spaced-first) i a in
       let y = list-keep M h U s B (given .waits) (given .spaced-second) j b in

@@ -1,8 +1,6 @@
 -- What is asked of a machine, word by word, so that the holder of its lock is protected. `keep` is all of the state
--- but
--- what belongs to the frame under way; `calm s bs`: the unit is in a frame that is not h's, of which the levels bs
--- are
--- still to come.
+-- but what belongs to the frame under way; `calm s bs`: the unit is in a frame that is not h's, of which the levels
+-- bs are still to come.
 use mathlib.Core.Bool.{Bool, true, false}
 use mathlib.Core.Path.{_≡_}
 use mathlib.Core.List.{List, [], _∷_}
@@ -16,7 +14,7 @@ use Rattle.isolation.specs.Runs.{Machine, shown, latest}
 pub record Unwinding (M : Machine) (h : ℕ) : Type 1 where
   pub Kept : Type 0
   pub keep : M .State → Kept
-  pub sees : (s t : M .State) → keep s ≡ keep t → M .seen s ≡ M .seen t
+  pub sees : (s t : M .State) → keep s ≡ keep t → M .observed s ≡ M .observed t
   pub asks : (s t : M .State) → keep s ≡ keep t → M .requesting s ≡ M .requesting t
   pub calm : M .State → List Bool → Type 0
   -- a word with a stray bit is refused, and changes nothing

@@ -1,6 +1,5 @@
 -- Demand 3: two runs of a machine on two lists of words, and what it is for the holder of the lock to be protected
--- from
--- everybody else's frames.
+-- from everybody else's frames.
 use mathlib.Core.Bool.{Bool, true, false}
 use mathlib.Core.Path.{_≡_}
 use mathlib.Core.List.{List, [], _∷_, map}
@@ -18,8 +17,8 @@ pub record Machine : Type 1 where
   pub step : State → ℕ → State
   pub answer : State → ℕ → ℕ
   -- "the buffers, the lock and the return codes"
-  pub Seen : Type 0
-  pub seen : State → Seen
+  pub Observed : Type 0
+  pub observed : State → Observed
   pub waiting : State → Type 0
   pub lockedTo : ℕ → State → Type 0
   -- "a master request stands while MARQ is set"
@@ -33,8 +32,7 @@ shown (slot c) a = a
 shown host a = a / 0x400 * 0x400 + a % 0x100
 
 -- "The slot driven is bits 9-8 of the latest answer before that slot's word that is no refusal": after one answer
--- more,
--- and after a list of them
+-- more, and after a list of them
 unfoldable pub latest : ℕ → ℕ → ℕ
 latest d a = pick (eqb (kindOf a) kindRefused) d (a / 0x100 % 4)
 
@@ -73,20 +71,18 @@ module _ (M : Machine) where
     pub unasked : (k : ℕ) → k ≤ i → M .requesting (run s (take k A)) ≡ false
 
   -- "Both begin in one state, waiting for a start .. with an idle slot between any two starts"; "the words kept are
-  -- one and
-  -- the same list". That the unit is locked, and asks for nothing, is in `Compared`
+  -- one and the same list". That the unit is locked, and asks for nothing, is in `Compared`
   pub record Given (h : ℕ) (s : M .State) (A B : List ℕ) : Type 0 where
     pub waits : M .waiting s
     pub spaced-first : spaced false (map classOf A) ≡ true
     pub spaced-second : spaced false (map classOf B) ≡ true
     pub same : kept h A ≡ kept h B
 
-  -- "the two runs are alike in every slot driven in the holder's frames, in every answer to those words .. and .. in
-  -- the
-  -- buffers, the lock and the return codes"
+  -- "the two runs are alike in every slot driven in the holder's frames, in every answer to those words .. and ..
+  -- in the buffers, the lock and the return codes"
   pub record Alike (h : ℕ) (s : M .State) (A B : List ℕ) : Type 0 where
     pub states : (i j : ℕ) → Behind h A B i j → Compared h s A i → Compared h s B j
-        → M .seen (run s (take i A)) ≡ M .seen (run s (take j B))
+        → M .observed (run s (take i A)) ≡ M .observed (run s (take j B))
     pub words : (i j : ℕ) → Places h A B i j → getD A i 0 ≡ getD B j 0
     pub replies : (i j : ℕ) → Places h A B i j → Compared h s A (suc i) → Compared h s B (suc j)
         → shown (classOf (getD A i 0)) (getD (answers s A) i 0)

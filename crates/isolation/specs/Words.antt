@@ -25,15 +25,14 @@ spells h zero x bs = eqb h x
 spells h (suc n) x [] = false
 spells h (suc n) x (b ∷ bs) = spells h n (x * 2 + bitOf b) bs
 
--- "The first level is the broadcast bit, the next 12 are the master address; with fewer it is cut short": the frame,
--- from
--- the words that follow its start slot, is h's. "Its frames are those with its address, parity right or wrong"
+-- "The first level is the broadcast bit, the next 12 are the master address; with fewer it is cut short": the
+-- frame, from the words that follow its start slot, is h's. "Its frames are those with its address, parity right or
+-- wrong"
 unfoldable pub framed : ℕ → List Class → Bool
 framed h ws = spells h 12 0 (drop 1 (levels ws))
 
 -- which words are kept: "host words are all words of another kind than 0"; of kind 0 those in h's frames, the idle
--- slot
--- that closes one among them. `mine` says that a frame of h's is open at the beginning
+-- slot that closes one among them. `mine` says that a frame of h's is open at the beginning
 unfoldable pub marks : ℕ → Bool → List Class → List Bool
 marks h mine [] = []
 marks h mine (slot (Level b) ∷ ws) = mine ∷ marks h mine ws

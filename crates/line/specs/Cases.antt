@@ -38,8 +38,7 @@ abbrev pub ordinary : ℕ → Contender
 ordinary a = record { bit = 1; address = a }
 
 -- "parity of 525H is 1, of 000H is 0"; "0FFH beats 100H, which loses in slot 6; broadcast FFFH beats ordinary 000H,
--- which
--- loses in slot 2"
+-- which loses in slot 2"
 unfoldable pub lineCases : List Case
 lineCases =
     (parityOf 0x525 ∷ parityOf 0x000 ∷ [] gives 1 ∷ 0 ∷ [])

@@ -1,6 +1,5 @@
 -- The definitions that a reader has to believe, in the order of document 01; then what private functions cite, and
--- the
--- marked cases.
+-- the marked cases.
 pub mod Numbers
 pub mod Choice
 pub mod Slot

@@ -81,13 +81,7 @@ refusedEmpty = 9
 abbrev pub refusedUnable : ℕ
 refusedUnable = 10
 
--- Frame: "45 slots and 10 per attempt", "length 00H means 256", "at most 16 attempts (mode 0) or 32 (mode 1)"
-abbrev pub headerSlots : ℕ
-headerSlots = 45
-
-abbrev pub attemptSlots : ℕ
-attemptSlots = 10
-
+-- Frame: "length 00H means 256", "at most 16 attempts (mode 0) or 32 (mode 1)"
 abbrev pub lengthOfZero : ℕ
 lengthOfZero = 256
 
@@ -106,6 +100,102 @@ tbfBytes = 33
 
 abbrev pub rbfBytes : ℕ
 rbfBytes = 40
+
+-- Registers: "Written: 0H CTR .. EH TBF", "Read: 0H STR .. EH RBF"
+abbrev pub regCtr : ℕ
+regCtr = 0x0
+
+abbrev pub regCmr : ℕ
+regCmr = 0x1
+
+abbrev pub regUar1 : ℕ
+regUar1 = 0x2
+
+abbrev pub regUar2 : ℕ
+regUar2 = 0x3
+
+abbrev pub regSar1 : ℕ
+regSar1 = 0x4
+
+abbrev pub regSar2 : ℕ
+regSar2 = 0x5
+
+abbrev pub regMcr : ℕ
+regMcr = 0x6
+
+abbrev pub regTbf : ℕ
+regTbf = 0xE
+
+abbrev pub regStr : ℕ
+regStr = 0x0
+
+abbrev pub regFlg : ℕ
+regFlg = 0x1
+
+abbrev pub regRdr1 : ℕ
+regRdr1 = 0x2
+
+abbrev pub regRdr2 : ℕ
+regRdr2 = 0x3
+
+abbrev pub regLor1 : ℕ
+regLor1 = 0x4
+
+abbrev pub regLor2 : ℕ
+regLor2 = 0x5
+
+abbrev pub regRcr : ℕ
+regRcr = 0x8
+
+abbrev pub regRbf : ℕ
+regRbf = 0xE
+
+-- "CTR (00H nothing, 08H reset, 10H set SLRE)"; "CMR (08H master request, 0BH offer slave data, 0FH clear SLRE, ..
+-- 40H copy the lock into LOR ..)"
+abbrev pub ctrNothing : ℕ
+ctrNothing = 0x00
+
+abbrev pub ctrReset : ℕ
+ctrReset = 0x08
+
+abbrev pub ctrSetSlre : ℕ
+ctrSetSlre = 0x10
+
+abbrev pub cmrRequest : ℕ
+cmrRequest = 0x08
+
+abbrev pub cmrOffer : ℕ
+cmrOffer = 0x0B
+
+abbrev pub cmrClearSlre : ℕ
+cmrClearSlre = 0x0F
+
+abbrev pub cmrCopyLock : ℕ
+cmrCopyLock = 0x40
+
+-- "Codes, in the order started, data wanted or full, normal, aborted: 0 to 3 sending, 4 to 7 receiving, 8 to 11
+-- broadcast reception": the first of each kind, and how far behind it the others are; only a sending can want data.
+-- "RCR FFH" is none of them
+abbrev pub codeSending : ℕ
+codeSending = 0
+
+abbrev pub codeReceiving : ℕ
+codeReceiving = 4
+
+abbrev pub codeBroadcastReceiving : ℕ
+codeBroadcastReceiving = 8
+
+abbrev pub codeWanted : ℕ
+codeWanted = 1
+
+abbrev pub codeNormal : ℕ
+codeNormal = 2
+
+abbrev pub codeAborted : ℕ
+codeAborted = 3
+
+abbrev pub codeAtReset : ℕ
+codeAtReset = 15
 
 -- The contest: at most 50 contenders, an address of twelve bits, lost in slots "2 to 14, start being 1"
 abbrev pub mostContenders : ℕ

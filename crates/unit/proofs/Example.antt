@@ -1,9 +1,7 @@
--- Demand 3 on two lists that meet its conditions: a unit is locked to 525H, which takes two more frames of BH to end
--- the
--- lock. In the first list strangers read status and lock, are turned down with every other control, broadcast, break
--- off in
--- every field and spoil parities, in between there are levels, idle slots and stray bits; in the second there is
--- other noise.
+-- Demand 3 on two lists that meet its conditions: a unit is locked to 525H, which takes two more frames of BH to
+-- end the lock. In the first list strangers read status and lock, are turned down with every other control,
+-- broadcast, break off in every field and spoil parities, in between there are levels, idle slots and stray bits;
+-- in the second there is other noise.
 use mathlib.Core.Bool.{Bool, true, false, not, _&&_}
 use mathlib.Core.Path.{_≡_, refl, sym, subst}
 use mathlib.Core.List.{List, [], _∷_, _++_, map}
@@ -126,7 +124,7 @@ waits : begin .core .frame .spot .place ≡ Waiting
 unfolding ones onesIn parity.parityOf parity.parityHolds parity.levelOf parity.levelsOf slotOf classOf frame.limitOf
     frame.lengthOf frame.shiftOf frame.begunOf frame.toField frame.doneOf frame.nextOf frame.shiftedOf
     frame.withLength slaves.addressedOf slaves.writesOf slaves.strangerOf slaves.openTo slaves.byValue
-    slaves.controlOf slaves.acceptedOf drive.sentOf drive.answerOf drive.driveIn drive.driveOf masters.contestedOf
+    slaves.controlOf slaves.acceptedOf drive.sentOf drive.repliedOf drive.driveIn drive.driveOf masters.contestedOf
     masters.ownBit masters.clashOf masters.lostOf level.heardOf level.headerAck level.textAck level.goOn
     level.afterAck level.atBroadcast level.masterOf level.atMaster level.withSlave level.slaveJudged level.atSlave
     level.withControl level.controlJudged level.atControl level.withAck level.lengthJudged level.atLength
@@ -138,14 +136,14 @@ unfolding ones onesIn parity.parityOf parity.parityHolds parity.levelOf parity.l
     endings.partEnded endings.dataEnded endings.lengthEnded endings.endedOf endings.leftOf endings.cutOf
     slots.begun slots.onStart slots.onIdle slots.onLost slots.onAddressed slots.withCode slots.sendingBegun
     slots.lengthDrawn
-    slots.onControlAcked slots.wanted slots.byteDrawn slots.otherParty slots.headerOf slots.receptionCode
+    slots.onControlAcked slots.wanted slots.byteDrawn slots.otherParty slots.headerOf endings.receptionCode
     slots.withCount slots.countOf slots.receptionBegun slots.onLengthAcked slots.counted slots.nextDrawn
     slots.onByteAcked slots.lastAcked slots.onEvent slots.onLevel slots.coreDrive registers.ctrRefusal
     registers.cmrRefusal registers.uarRefusal registers.requestRefusal registers.mcrListed registers.tbfRefusal
     registers.writeRefusal registers.lorCopied registers.requested registers.commanded registers.uar1Written
     registers.mcrWritten registers.written registers.readRefusal registers.strByte registers.flgByte
     registers.rcrByte registers.readValue registers.writeDone registers.writeTold registers.readTold
-    registers.toldOf step.driveOf step.clashes step.slotOn step.slotSaid step.stepOf step.answerOf step.wordOf
+    registers.toldOf step.nextDrive step.clashes step.slotOn step.slotSaid step.stepOf step.answerOf step.wordOf
 waits = refl
 
 -- up to and with the word that ends the lock, which the closing idle slot follows
@@ -160,7 +158,7 @@ checked : (checks first ≡ true) × (checks second ≡ true)
 unfolding checks along held unasked first second ones onesIn parity.parityOf parity.parityHolds parity.levelOf
     parity.levelsOf slotOf classOf frame.limitOf frame.lengthOf frame.shiftOf frame.begunOf frame.toField
     frame.doneOf frame.nextOf frame.shiftedOf frame.withLength slaves.addressedOf slaves.writesOf slaves.strangerOf
-    slaves.openTo slaves.byValue slaves.controlOf slaves.acceptedOf drive.sentOf drive.answerOf drive.driveIn
+    slaves.openTo slaves.byValue slaves.controlOf slaves.acceptedOf drive.sentOf drive.repliedOf drive.driveIn
     drive.driveOf masters.contestedOf masters.ownBit masters.clashOf masters.lostOf level.heardOf level.headerAck
     level.textAck level.goOn level.afterAck level.atBroadcast level.masterOf level.atMaster level.withSlave
     level.slaveJudged level.atSlave level.withControl level.controlJudged level.atControl level.withAck
@@ -171,13 +169,13 @@ unfolding checks along held unasked first second ones onesIn parity.parityOf par
     endings.sendingEnded endings.receptionEnded endings.partEnded endings.dataEnded endings.lengthEnded
     endings.endedOf endings.leftOf endings.cutOf slots.begun slots.onStart slots.onIdle slots.onLost slots.onAddressed
     slots.withCode slots.sendingBegun slots.lengthDrawn slots.onControlAcked slots.wanted slots.byteDrawn
-    slots.otherParty slots.headerOf slots.receptionCode slots.withCount slots.countOf slots.receptionBegun
+    slots.otherParty slots.headerOf endings.receptionCode slots.withCount slots.countOf slots.receptionBegun
     slots.onLengthAcked slots.counted slots.nextDrawn slots.onByteAcked slots.lastAcked slots.onEvent slots.onLevel
     slots.coreDrive registers.ctrRefusal registers.cmrRefusal registers.uarRefusal registers.requestRefusal
     registers.mcrListed registers.tbfRefusal registers.writeRefusal registers.lorCopied registers.requested
     registers.commanded registers.uar1Written registers.mcrWritten registers.written registers.readRefusal
     registers.strByte registers.flgByte registers.rcrByte registers.readValue registers.writeDone
-    registers.writeTold registers.readTold registers.toldOf step.driveOf step.clashes step.slotOn step.slotSaid
+    registers.writeTold registers.readTold registers.toldOf step.nextDrive step.clashes step.slotOn step.slotSaid
     step.stepOf step.answerOf step.wordOf
 checked = (refl, refl)
 
@@ -226,7 +224,7 @@ pub ended : observed (run unit begin (take (upTo first) first))
 unfolding first ones onesIn parity.parityOf parity.parityHolds parity.levelOf parity.levelsOf slotOf classOf
     frame.limitOf frame.lengthOf frame.shiftOf frame.begunOf frame.toField frame.doneOf frame.nextOf frame.shiftedOf
     frame.withLength slaves.addressedOf slaves.writesOf slaves.strangerOf slaves.openTo slaves.byValue
-    slaves.controlOf slaves.acceptedOf drive.sentOf drive.answerOf drive.driveIn drive.driveOf masters.contestedOf
+    slaves.controlOf slaves.acceptedOf drive.sentOf drive.repliedOf drive.driveIn drive.driveOf masters.contestedOf
     masters.ownBit masters.clashOf masters.lostOf level.heardOf level.headerAck level.textAck level.goOn
     level.afterAck level.atBroadcast level.masterOf level.atMaster level.withSlave level.slaveJudged level.atSlave
     level.withControl level.controlJudged level.atControl level.withAck level.lengthJudged level.atLength
@@ -238,12 +236,12 @@ unfolding first ones onesIn parity.parityOf parity.parityHolds parity.levelOf pa
     endings.partEnded endings.dataEnded endings.lengthEnded endings.endedOf endings.leftOf endings.cutOf
     slots.begun slots.onStart slots.onIdle slots.onLost slots.onAddressed slots.withCode slots.sendingBegun
     slots.lengthDrawn
-    slots.onControlAcked slots.wanted slots.byteDrawn slots.otherParty slots.headerOf slots.receptionCode
+    slots.onControlAcked slots.wanted slots.byteDrawn slots.otherParty slots.headerOf endings.receptionCode
     slots.withCount slots.countOf slots.receptionBegun slots.onLengthAcked slots.counted slots.nextDrawn
     slots.onByteAcked slots.lastAcked slots.onEvent slots.onLevel slots.coreDrive registers.ctrRefusal
     registers.cmrRefusal registers.uarRefusal registers.requestRefusal registers.mcrListed registers.tbfRefusal
     registers.writeRefusal registers.lorCopied registers.requested registers.commanded registers.uar1Written
     registers.mcrWritten registers.written registers.readRefusal registers.strByte registers.flgByte
     registers.rcrByte registers.readValue registers.writeDone registers.writeTold registers.readTold
-    registers.toldOf step.driveOf step.clashes step.slotOn step.slotSaid step.stepOf step.answerOf step.wordOf
+    registers.toldOf step.nextDrive step.clashes step.slotOn step.slotSaid step.stepOf step.answerOf step.wordOf
 ended = refl

@@ -28,7 +28,7 @@ use Rattle.unit.specs.Endings.{acted, cutAt, cutOf, endedOf, leftOf}
 use Rattle.unit.specs.Slots.{coreDrive, driveAt, onEvent, onIdle, onLevel, onMoved, onStart}
 use Rattle.unit.specs.Slots as slots
 use Rattle.unit.specs.Registers.{Told, wrote, restarted, gave, denied, toldOf}
-use Rattle.unit.specs.Step.{actedOn, answerOf, clashes, driveOf, saidAs, slotOn, slotSaid, stepAs, stepOf}
+use Rattle.unit.specs.Step.{actedOn, answerOf, clashes, nextDrive, saidAs, slotOn, slotSaid, stepAs, stepOf}
 use Rattle.unit.specs.Step.{toldOn, toldSaid}
 use Rattle.unit.specs.Step.{wordOf}
 use Rattle.unit.specs.Machine.{Observed, observed, unit, waiting}
@@ -66,15 +66,15 @@ never true = refl
 never false = refl
 
 -- it drives 1
-drive-waiting : (s : State) → waiting s → s .core .regs .marq ≡ false → driveOf s ≡ 1
-unfolding driveOf coreDrive
+drive-waiting : (s : State) → waiting s → s .core .regs .marq ≡ false → nextDrive s ≡ 1
+unfolding nextDrive coreDrive
 drive-waiting s e q =
     ap (λ (p : Place). driveAt p (s .core) (isEmpty (s .rbf))) e
     ∙ pick-no (s .core .idle && takesPart (s .core .regs) (isEmpty (s .rbf))) 2 1
     (ap (λ (b : Bool). s .core .idle && b) (no-part (s .core .regs) (isEmpty (s .rbf)) q) ∙ never (s .core .idle))
 
 -- no level is refused of one that drives 1
-no-refusal : (s : State) (b : Bool) → driveOf s ≡ 1 → clashes s b ≡ false
+no-refusal : (s : State) (b : Bool) → nextDrive s ≡ 1 → clashes s b ≡ false
 unfolding clashes
 no-refusal s b e = ap (λ (d : ℕ). b && eqb d 0) e ∙ never b
 
@@ -128,8 +128,8 @@ after-same a s e q = ap₂ (λ (r : Registers) (x : Act). record
 
 -- what is driven after a slot that is taken
 taken-drive : (d : ℕ) (t : State) → waiting t → t .core .regs .marq ≡ false
-    → latest d (wordOf (Given (Taken (driveOf t)))) ≡ 1
-taken-drive d t e q = latest-taken d (driveOf t) ∙ ap (λ (x : ℕ). x % 4) (drive-waiting t e q)
+    → latest d (wordOf (Given (Taken (nextDrive t)))) ≡ 1
+taken-drive d t e q = latest-taken d (nextDrive t) ∙ ap (λ (x : ℕ). x % 4) (drive-waiting t e q)
 
 -- ---- stray bits, idle slots
 
@@ -274,7 +274,7 @@ start-stepped s w r e =
     ∙ ap (λ (a : Acted). actedOn s (a ▹ acted·core (slots.begun (a .core) (isEmpty (s .rbf)))))
     (cut-waiting (s .core) e)
 
-start-said : (s : State) (w : ℕ) → classOf w ≡ slot Start → answerOf s w ≡ Given (Taken (driveOf (stepOf s w)))
+start-said : (s : State) (w : ℕ) → classOf w ≡ slot Start → answerOf s w ≡ Given (Taken (nextDrive (stepOf s w)))
 unfolding slotSaid
 start-said s w r = said s w (slot Start) r
 
@@ -285,7 +285,7 @@ start-word : (s t : State) (w : ℕ) → classOf w ≡ slot Start → waiting s 
 start-word s t w r ws wt e q =
     let same : stepOf s w ≡ stepOf t w = start-stepped s w r ws ∙ ap begun e ∙ sym (start-stepped t w r wt) in (
       same,
-      ap wordOf (start-said s w r ∙ ap (λ (z : State). Given (Taken (driveOf z))) same ∙ sym (start-said t w r)),
+      ap wordOf (start-said s w r ∙ ap (λ (z : State). Given (Taken (nextDrive z))) same ∙ sym (start-said t w r)),
       λ d n. ap (λ (a : Answer). latest d (wordOf a)) (start-said s w r) ∙ latest-taken d _ ∙ sym (latest-taken n _)
           ∙ sym (ap (λ (a : Answer). latest n (wordOf a)) (start-said s w r)),
     )
@@ -305,8 +305,8 @@ module _ (h : ℕ) where
 
   -- it drives 1 up to the master address
   drive-broadcast : (s : State) (n : ℕ) → s .core .frame .spot .place ≡ In Broadcast n → s .core .frame .leads ≡ false
-      → driveOf s ≡ 1
-  unfolding driveOf coreDrive drive.driveOf drive.driveIn
+      → nextDrive s ≡ 1
+  unfolding nextDrive coreDrive drive.driveOf drive.driveIn
   drive-broadcast s n e l =
       let view = viewOf (s .core .regs) (isEmpty (s .rbf)) in
       ap (λ (p : Place). driveAt p (s .core) (isEmpty (s .rbf))) e
@@ -314,8 +314,8 @@ module _ (h : ℕ) where
       ∙ ap (λ (leads : Bool). bitOf (not leads || view .bit)) l
 
   drive-master : (s : State) (n : ℕ) → s .core .frame .spot .place ≡ In Master n → s .core .frame .leads ≡ false
-      → driveOf s ≡ 1
-  unfolding driveOf coreDrive drive.driveOf drive.driveIn
+      → nextDrive s ≡ 1
+  unfolding nextDrive coreDrive drive.driveOf drive.driveIn
   drive-master s n e l =
       let view = viewOf (s .core .regs) (isEmpty (s .rbf)) in
       ap (λ (p : Place). driveAt p (s .core) (isEmpty (s .rbf))) e

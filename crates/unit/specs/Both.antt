@@ -18,7 +18,7 @@ use Rattle.unit.specs.declared.step.Unit.{Unit}
 use Rattle.unit.specs.Queue.{circleOf, tbfOf, rbfOf}
 use Rattle.unit.specs.Registers.{Told, toldOf, readTold, writeDone, writeTold}
 use Rattle.unit.specs.State.{State, reset, seenOf}
-use Rattle.unit.specs.Step.{actedOn, answerOf, clashes, driveOf, slotOn, slotSaid, stepOf, toldOn, toldSaid}
+use Rattle.unit.specs.Step.{actedOn, answerOf, clashes, nextDrive, slotOn, slotSaid, stepOf, toldOn, toldSaid}
 
 -- a unit whose buffers are lent: the bytes of TBF and of RBF
 abbrev pub stateIn : Lent → List ℕ → List ℕ → State
@@ -41,13 +41,13 @@ abbrev pub refusedIn : State → ℕ → Both
 refusedIn s number = record { state = s; answer = Refused number }
 
 abbrev pub takenIn : State → Both
-takenIn s = record { state = s; answer = Given (Taken (driveOf s)) }
+takenIn s = record { state = s; answer = Given (Taken (nextDrive s)) }
 
 abbrev pub writtenIn : State → Both
-writtenIn s = record { state = s; answer = Given (Written (driveOf s)) }
+writtenIn s = record { state = s; answer = Given (Written (nextDrive s)) }
 
 abbrev pub gaveIn : State → ℕ → Both
-gaveIn s value = record { state = s; answer = Given (Read value (driveOf s)) }
+gaveIn s value = record { state = s; answer = Given (Read value (nextDrive s)) }
 
 abbrev pub afterSlot : State → Slot → Both
 afterSlot s c = record { state = slotOn s c; answer = slotSaid s (slotOn s c) c }
@@ -76,7 +76,7 @@ abbrev pub Fresh : Lent → Type 0
 Fresh u = (t r : List ℕ) → stateIn u t r ≡ reset
 
 abbrev pub Drives : Lent → ℕ → Type 0
-Drives u drive = (t r : List ℕ) → drive ≡ driveOf (stateIn u t r)
+Drives u drive = (t r : List ℕ) → drive ≡ nextDrive (stateIn u t r)
 
 abbrev pub Sees : Lent → List ℕ → Seen → Type 0
 Sees u t seen = (r : List ℕ) → seen ≡ seenOf (circleOf tbfBytes t (u .tbf)) (circleOf rbfBytes r (u .rbf))

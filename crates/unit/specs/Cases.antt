@@ -151,7 +151,7 @@ unfolding allGiven lineCases frameCases unitCases ones onesIn lossesOf lossOf se
     parity.parityOf parity.parityHolds parity.levelOf parity.levelsOf slotOf classOf slotsTaken frame.limitOf
     frame.lengthOf frame.shiftOf frame.begunOf frame.toField frame.doneOf frame.nextOf frame.shiftedOf
     frame.withLength slaves.addressedOf slaves.writesOf slaves.strangerOf slaves.openTo slaves.byValue
-    slaves.controlOf slaves.acceptedOf drive.sentOf drive.answerOf drive.driveIn drive.driveOf masters.contestedOf
+    slaves.controlOf slaves.acceptedOf drive.sentOf drive.repliedOf drive.driveIn drive.driveOf masters.contestedOf
     masters.ownBit masters.clashOf masters.lostOf level.heardOf level.headerAck level.textAck level.goOn
     level.afterAck level.atBroadcast level.masterOf level.atMaster level.withSlave level.slaveJudged level.atSlave
     level.withControl level.controlJudged level.atControl level.withAck level.lengthJudged level.atLength
@@ -164,12 +164,12 @@ unfolding allGiven lineCases frameCases unitCases ones onesIn lossesOf lossOf se
     endings.cutOf slots.begun slots.onStart slots.onIdle slots.onLost slots.onAddressed slots.withCode
     slots.sendingBegun
     slots.lengthDrawn slots.onControlAcked slots.wanted slots.byteDrawn slots.otherParty slots.headerOf
-    slots.receptionCode slots.withCount slots.countOf slots.receptionBegun slots.onLengthAcked slots.counted
+    endings.receptionCode slots.withCount slots.countOf slots.receptionBegun slots.onLengthAcked slots.counted
     slots.nextDrawn slots.onByteAcked slots.lastAcked slots.onEvent slots.onLevel slots.coreDrive
     registers.ctrRefusal registers.cmrRefusal registers.uarRefusal registers.requestRefusal registers.mcrListed
     registers.tbfRefusal registers.writeRefusal registers.lorCopied registers.requested registers.commanded
     registers.uar1Written registers.mcrWritten registers.written registers.readRefusal registers.strByte
     registers.flgByte registers.rcrByte registers.readValue registers.writeDone registers.writeTold
-    registers.readTold registers.toldOf step.driveOf step.clashes step.slotOn step.slotSaid step.stepOf
+    registers.readTold registers.toldOf step.nextDrive step.clashes step.slotOn step.slotSaid step.stepOf
     step.answerOf step.wordOf
 unit-cases = refl

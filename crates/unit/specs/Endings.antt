@@ -4,6 +4,7 @@ use Prim.Native.Nat.{ℕ, _+_}
 use mathlib.Core.Bool.{Bool, true, false, not, _&&_, _||_}
 use lib.Dec.{eqb}
 use Rattle.line.specs.Choice.{pick, _▹_}
+use Rattle.line.specs.Numbers.{codeSending, codeReceiving, codeBroadcastReceiving, codeNormal, codeAborted}
 use Rattle.frame.specs.Frame.{doneOf}
 use Rattle.frame.specs.Slaves.{writesOf}
 use Rattle.frame.specs.declared.place.Field.{Field}
@@ -24,10 +25,13 @@ abbrev pub acted : Act → Core → Acted
 acted a c = record { core = c; act = a }
 
 -- "Codes, in the order started, data wanted or full, normal, aborted: 0 to 3 sending, 4 to 7 receiving, 8 to 11
--- broadcast
--- reception": the code of an end, from that of the start
+-- broadcast reception": the code of an end, from that of the start
 unfoldable pub endCode : ℕ → Bool → ℕ
-endCode started whole = pick whole (started + 2) (started + 3)
+endCode started whole = pick whole (started + codeNormal) (started + codeAborted)
+
+-- "receptions at length accepted": the code with which one starts
+unfoldable pub receptionCode : Frame → ℕ
+receptionCode f = pick (not (f .leads) && f .broadcast) codeBroadcastReceiving codeReceiving
 
 -- what a master sends, and what a slave sends with 3H or 7H ("only 3H and 7H count as slave sending"), comes from TBF
 unfoldable pub draws : Frame → Bool
@@ -49,9 +53,8 @@ ties f = not (f .broadcast) && (eqb (f .control) 3 || eqb (f .control) 10 || eqb
 unfoldable pub frees : Frame → Bool → Bool
 frees f whole = not (f .broadcast) && eqb (f .control) 6 && whole
 
--- ".. has its length ACKed, the frame's end before all bytes are ACKed locks to its master; all bytes ACKed unlocks.
--- 6H
--- unlocks when its byte is ACKed."
+-- ".. has its length ACKed, the frame's end before all bytes are ACKed locks to its master; all bytes ACKed
+-- unlocks. 6H unlocks when its byte is ACKed."
 unfoldable pub lockAfter : Frame → Bool → Registers → Registers
 lockAfter f whole r =
     pick (ties f) (pick whole (unlocked r) (lockedTo (f .master) r))
@@ -63,18 +66,19 @@ lockAfter f whole r =
 unfoldable pub requestEnded : Core → Bool → Acted
 requestEnded c whole =
     pick (writesOf (c .regs .control))
-    (acted Empty (c ▹ core·regs (c .regs ▹ registers·marq false ▹ registers·marc (endCode 0 whole))))
-    (acted Nothing (c ▹ core·regs (c .regs ▹ registers·marq false ▹ registers·marc (endCode 4 whole))))
+    (acted Empty (c ▹ core·regs (c .regs ▹ registers·marq false ▹ registers·marc (endCode codeSending whole))))
+    (acted Nothing (c ▹ core·regs (c .regs ▹ registers·marq false ▹ registers·marc (endCode codeReceiving whole))))
 
 -- a slave's sending with 3H or 7H: ".. STRQ .."
 unfoldable pub sendingEnded : Core → Bool → Acted
-sendingEnded c whole = acted Empty (c ▹ core·regs (c .regs ▹ registers·slrc (endCode 0 whole) ▹ registers·strq false))
+sendingEnded c whole =
+    acted Empty (c ▹ core·regs (c .regs ▹ registers·slrc (endCode codeSending whole) ▹ registers·strq false))
 
 -- a slave's reception: ".. or SLRE"
 unfoldable pub receptionEnded : Core → Bool → Acted
 receptionEnded c whole =
     acted Nothing
-    (c ▹ core·regs (c .regs ▹ registers·slrc (endCode (pick (c .frame .broadcast) 8 4) whole) ▹ registers·slre false))
+    (c ▹ core·regs (c .regs ▹ registers·slrc (endCode (receptionCode (c .frame)) whole) ▹ registers·slre false))
 
 -- a slave's part in the data
 unfoldable pub partEnded : Core → Bool → Acted

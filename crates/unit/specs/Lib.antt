@@ -1,6 +1,5 @@
 -- The definitions that a reader has to believe, in the order of document 01; then how the code's structs stand for
--- them,
--- and the marked cases.
+-- them, and the marked cases.
 pub mod Set
 pub mod State
 pub mod Endings

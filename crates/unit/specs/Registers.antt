@@ -8,7 +8,9 @@ use Rattle.line.specs.Choice.{pick, bitOf, _▹_}
 use Rattle.line.specs.Slot.{kindOf}
 use Rattle.line.specs.Numbers.{kindWrite, kindRead, refusedKind, refusedStrayBit, refusedRegister, refusedValue}
 use Rattle.line.specs.Numbers.{refusedOutOfTurn, refusedFull, refusedTooFew, refusedEmpty, refusedUnable, rbfBytes}
-use Rattle.line.specs.Numbers.{tbfBytes}
+use Rattle.line.specs.Numbers.{tbfBytes, ctrNothing, ctrReset, ctrSetSlre, cmrRequest, cmrOffer, cmrClearSlre}
+use Rattle.line.specs.Numbers.{cmrCopyLock, regCtr, regCmr, regUar1, regUar2, regSar1, regSar2, regMcr, regTbf}
+use Rattle.line.specs.Numbers.{regStr, regFlg, regRdr1, regRdr2, regLor1, regLor2, regRcr, regRbf}
 use Rattle.frame.specs.Slaves.{writesOf}
 use Rattle.unit.specs.declared.state.Registers.{Registers}
 use Rattle.unit.specs.Set.{registers·own, registers·enabled, registers·long, registers·slave, registers·bit}
@@ -22,15 +24,16 @@ use Rattle.unit.specs.State.{isEmpty, pushOf}
 
 -- "CTR (00H nothing, 08H reset, 10H set SLRE)"
 unfoldable pub ctrRefusal : ℕ → ℕ
-ctrRefusal v = pick (eqb v 0x00 || eqb v 0x08 || eqb v 0x10) 0 refusedValue
+ctrRefusal v = pick (eqb v ctrNothing || eqb v ctrReset || eqb v ctrSetSlre) 0 refusedValue
 
 -- "CMR (08H master request, 0BH offer slave data, 0FH clear SLRE, .. 40H copy the lock into LOR ..)"
 unfoldable pub cmrRefusal : Registers → ℕ → ℕ → ℕ
 cmrRefusal r waiting v =
-    pick (not (eqb v 0x08 || eqb v 0x0B || eqb v 0x0F || eqb v 0x40)) refusedValue
-    (pick ((eqb v 0x08 || eqb v 0x0B) && (r .marq || r .strq)) refusedOutOfTurn
-    (pick ((eqb v 0x08 && writesOf (r .control) || eqb v 0x0B) && ltb waiting 2) refusedTooFew
-    (pick (eqb v 0x08 && r .bit && eqb (r .slave) (r .own) || eqb v 0x0B && not (r .enabled)) refusedUnable 0)))
+    pick (not (eqb v cmrRequest || eqb v cmrOffer || eqb v cmrClearSlre || eqb v cmrCopyLock)) refusedValue
+    (pick ((eqb v cmrRequest || eqb v cmrOffer) && (r .marq || r .strq)) refusedOutOfTurn
+    (pick ((eqb v cmrRequest && writesOf (r .control) || eqb v cmrOffer) && ltb waiting 2) refusedTooFew
+    (pick (eqb v cmrRequest && r .bit && eqb (r .slave) (r .own) || eqb v cmrOffer && not (r .enabled)) refusedUnable
+    0)))
 
 -- "UAR1 (own address low 4 bits, then 0, 0, sending enabled, mode). .. UAR2 (high 8)": "UAR with MARQ, STRQ, SLRE or
 -- locked"
@@ -55,20 +58,19 @@ tbfRefusal waiting = pick (leb tbfBytes waiting) refusedFull 0
 -- "Written: 0H CTR .. 1H CMR .. 2H UAR1 .. 3H UAR2 .. 4H SAR1 .. 5H SAR2. 6H MCR .. EH TBF"
 unfoldable pub writeRefusal : Registers → ℕ → ℕ → ℕ → ℕ
 writeRefusal r waiting register v =
-    pick (eqb register 0x0) (ctrRefusal v)
-    (pick (eqb register 0x1) (cmrRefusal r waiting v)
-    (pick (eqb register 0x2) (uarRefusal r (eqb (v / 4 % 4) 0))
-    (pick (eqb register 0x3) (uarRefusal r true)
-    (pick (eqb register 0x4) (requestRefusal r (eqb (v % 16) 0))
-    (pick (eqb register 0x5) (requestRefusal r true)
-    (pick (eqb register 0x6) (requestRefusal r (mcrListed v))
-    (pick (eqb register 0xE) (tbfRefusal waiting) refusedRegister)))))))
+    pick (eqb register regCtr) (ctrRefusal v)
+    (pick (eqb register regCmr) (cmrRefusal r waiting v)
+    (pick (eqb register regUar1) (uarRefusal r (eqb (v / 4 % 4) 0))
+    (pick (eqb register regUar2) (uarRefusal r true)
+    (pick (eqb register regSar1) (requestRefusal r (eqb (v % 16) 0))
+    (pick (eqb register regSar2) (requestRefusal r true)
+    (pick (eqb register regMcr) (requestRefusal r (mcrListed v))
+    (pick (eqb register regTbf) (tbfRefusal waiting) refusedRegister)))))))
 
 -- ---- writes: what is done
 
 -- "(.. copy the lock into LOR, zeros if unlocked)"; "LOR1 (low 8), .. LOR2 (high half 0001 if locked; low half
--- address
--- high 4)"
+-- address high 4)"
 unfoldable pub lorCopied : Registers → Registers
 lorCopied r =
     pick (r .locked) (r ▹ registers·lor1 (r .holder % 256) ▹ registers·lor2 (16 + r .holder / 256 % 16))
@@ -80,9 +82,9 @@ requested r = r ▹ registers·marq true ▹ registers·losses 0 ▹ registers·
 
 unfoldable pub commanded : Registers → ℕ → Registers
 commanded r v =
-    pick (eqb v 0x08) (requested r)
-    (pick (eqb v 0x0B) (r ▹ registers·strq true)
-    (pick (eqb v 0x0F) (r ▹ registers·slre false) (lorCopied r)))
+    pick (eqb v cmrRequest) (requested r)
+    (pick (eqb v cmrOffer) (r ▹ registers·strq true)
+    (pick (eqb v cmrClearSlre) (r ▹ registers·slre false) (lorCopied r)))
 
 unfoldable pub uar1Written : Registers → ℕ → Registers
 uar1Written r v =
@@ -96,20 +98,20 @@ mcrWritten r v =
 -- the registers after an accepted write but a reset's and TBF's
 unfoldable pub written : Registers → ℕ → ℕ → Registers
 written r register v =
-    pick (eqb register 0x0) (pick (eqb v 0x10) (r ▹ registers·slre true) r)
-    (pick (eqb register 0x1) (commanded r v)
-    (pick (eqb register 0x2) (uar1Written r v)
-    (pick (eqb register 0x3) (r ▹ registers·own (v * 16 + r .own % 16))
-    (pick (eqb register 0x4) (r ▹ registers·slave (r .slave / 16 * 16 + v / 16))
-    (pick (eqb register 0x5) (r ▹ registers·slave (v * 16 + r .slave % 16)) (mcrWritten r v))))))
+    pick (eqb register regCtr) (pick (eqb v ctrSetSlre) (r ▹ registers·slre true) r)
+    (pick (eqb register regCmr) (commanded r v)
+    (pick (eqb register regUar1) (uar1Written r v)
+    (pick (eqb register regUar2) (r ▹ registers·own (v * 16 + r .own % 16))
+    (pick (eqb register regSar1) (r ▹ registers·slave (r .slave / 16 * 16 + v / 16))
+    (pick (eqb register regSar2) (r ▹ registers·slave (v * 16 + r .slave % 16)) (mcrWritten r v))))))
 
 -- ---- reads
 
 -- "Read: 0H STR .. 1H FLG .. 2H RDR1, 3H RDR2. 4H LOR1 .. 5H LOR2 .. 8H RCR .. EH RBF"; "RBF read when empty"
 unfoldable pub readRefusal : ℕ → Bool → ℕ
 readRefusal register clear =
-    pick (leb register 5 || eqb register 0x8) 0
-    (pick (eqb register 0xE) (pick clear refusedEmpty 0) refusedRegister)
+    pick (leb register regLor2 || eqb register regRcr) 0
+    (pick (eqb register regRbf) (pick clear refusedEmpty 0) refusedRegister)
 
 -- "STR (TFL, TEP, RFL, REP in bits 7-4)"
 unfoldable pub strByte : ℕ → ℕ → ℕ
@@ -128,12 +130,12 @@ rcrByte r = r .marc % 16 * 16 + r .slrc % 16
 -- a register but RBF, from the registers and the number of bytes in each buffer
 unfoldable pub readValue : Registers → ℕ → ℕ → ℕ → ℕ
 readValue r waiting stored register =
-    pick (eqb register 0x0) (strByte waiting stored)
-    (pick (eqb register 0x1) (flgByte r)
-    (pick (eqb register 0x2) (r .rdr1)
-    (pick (eqb register 0x3) (r .rdr2)
-    (pick (eqb register 0x4) (r .lor1)
-    (pick (eqb register 0x5) (r .lor2) (rcrByte r))))))
+    pick (eqb register regStr) (strByte waiting stored)
+    (pick (eqb register regFlg) (flgByte r)
+    (pick (eqb register regRdr1) (r .rdr1)
+    (pick (eqb register regRdr2) (r .rdr2)
+    (pick (eqb register regLor1) (r .lor1)
+    (pick (eqb register regLor2) (r .lor2) (rcrByte r))))))
 
 -- ---- a host word
 
@@ -154,8 +156,8 @@ valueOf w = w % 256
 -- an accepted write
 unfoldable pub writeDone : Registers → List ℕ → ℕ → ℕ → Told
 writeDone r tbf register v =
-    pick (eqb register 0xE) (wrote r (pushOf tbfBytes tbf v))
-    (pick (eqb register 0x0 && eqb v 0x08) restarted (wrote (written r register v) tbf))
+    pick (eqb register regTbf) (wrote r (pushOf tbfBytes tbf v))
+    (pick (eqb register regCtr && eqb v ctrReset) restarted (wrote (written r register v) tbf))
 
 unfoldable pub writeTold : Registers → List ℕ → ℕ → ℕ → Told
 writeTold r tbf register v =
@@ -165,13 +167,12 @@ writeTold r tbf register v =
 unfoldable pub readTold : Registers → List ℕ → List ℕ → ℕ → Told
 readTold r tbf rbf register =
     pick (eqb (readRefusal register (isEmpty rbf)) 0)
-    (pick (eqb register 0xE) (gave (drop 1 rbf) (getD rbf 0 0))
+    (pick (eqb register regRbf) (gave (drop 1 rbf) (getD rbf 0 0))
     (gave rbf (readValue r (length tbf) (length rbf) register)))
     (denied (readRefusal register (isEmpty rbf)))
 
 -- "1, register write: bits 27-24 register, bits 7-0 value. 2, register read: bits 27-24 register"; number 1, "kind
--- not 0,
--- 1, 2", and number 2, "an unnamed bit is set"
+-- not 0, 1, 2", and number 2, "an unnamed bit is set"
 unfoldable pub toldOf : Registers → List ℕ → List ℕ → ℕ → Told
 toldOf r tbf rbf w =
     pick (eqb (kindOf w) kindWrite)

@@ -3,6 +3,7 @@ use Prim.Native.Nat.{ℕ, _+_, _*_, _/_, _%_}
 use mathlib.Core.Bool.{Bool, true, false, not, _&&_, _||_}
 use lib.Dec.{eqb, leb, ltb}
 use Rattle.line.specs.Choice.{pick, bitOf, _▹_}
+use Rattle.line.specs.Numbers.{codeSending, codeWanted, driveReleased, driveStart}
 use Rattle.frame.specs.Frame.{begunOf, withLength}
 use Rattle.frame.specs.Set.{frame·byte}
 use Rattle.frame.specs.Slaves.{writesOf}
@@ -28,7 +29,7 @@ use Rattle.unit.specs.Set.{registers·losses, registers·marc, registers
 use Rattle.unit.specs.Set.{core·frame, core·regs}
 use Rattle.unit.specs.Set.{core·idle, acted·core}
 use Rattle.unit.specs.State.{viewOf, takesPart, ownByte}
-use Rattle.unit.specs.Endings.{acted, draws, requestEnded, endedOf, leftOf, cutOf}
+use Rattle.unit.specs.Endings.{acted, draws, requestEnded, endedOf, leftOf, cutOf, receptionCode}
 
 -- ---- start and idle
 
@@ -55,7 +56,7 @@ onLost c =
 -- "Master sending starts with the P slot of its own address"
 unfoldable pub onAddressed : Core → Core
 onAddressed c =
-    pick (c .frame .leads && writesOf (c .regs .control)) (c ▹ core·regs (c .regs ▹ registers·marc 0)) c
+    pick (c .frame .leads && writesOf (c .regs .control)) (c ▹ core·regs (c .regs ▹ registers·marc codeSending)) c
 
 -- a code of the sending or reception under way: MARC for a master, SLRC for a slave
 unfoldable pub withCode : Core → ℕ → Core
@@ -65,7 +66,7 @@ withCode c code =
 
 -- "slave sending at control ACK"
 unfoldable pub sendingBegun : Core → Core
-sendingBegun c = pick (c .frame .leads) c (c ▹ core·regs (c .regs ▹ registers·slrc 0))
+sendingBegun c = pick (c .frame .leads) c (c ▹ core·regs (c .regs ▹ registers·slrc codeSending))
 
 -- "The length and each byte leave TBF as their field first begins."
 unfoldable pub lengthDrawn : Core → ℕ → Acted
@@ -77,16 +78,16 @@ onControlAcked c seen =
     pick (draws (c .frame)) (lengthDrawn (sendingBegun c) (seen .front))
     (pick (c .frame .sends) (acted Nothing (c ▹ core·frame (withLength (c .frame) 1))) (acted Nothing c))
 
--- "Wanted comes when TBF is then empty with bytes to follow"
+-- "Wanted comes when TBF is then empty with bytes to follow": the byte is still in TBF, and is not the last
 unfoldable pub wanted : Frame → Seen → Bool
-wanted f seen = leb (seen .waiting) 1 && ltb (f .acked % 512 + 1) (f .length)
+wanted f seen = leb (seen .waiting) 1 && not (step.wholeOf f)
 
 abbrev pub withByte : Core → ℕ → Core
 withByte c byte = c ▹ core·frame (c .frame ▹ frame·byte byte)
 
 unfoldable pub byteDrawn : Core → Seen → Acted
 byteDrawn c seen =
-    acted Take (pick (wanted (c .frame) seen) (withCode (withByte c (seen .front)) 1) (withByte c (seen .front)))
+    let d = withByte c (seen .front) in acted Take (pick (wanted (c .frame) seen) (withCode d codeWanted) d)
 
 -- the other party's address
 unfoldable pub otherParty : Frame → ℕ
@@ -96,10 +97,6 @@ otherParty f = pick (f .leads) (f .slave) (f .master)
 -- length"
 unfoldable pub headerOf : Frame → Act
 headerOf f = Header (otherParty f / 16 % 256) (otherParty f % 16 * 16 + f .control % 16) (f .length % 256)
-
--- "receptions at length accepted": 4 received, 8 broadcast
-unfoldable pub receptionCode : Frame → ℕ
-receptionCode f = pick (not (f .leads) && f .broadcast) 8 4
 
 -- "the RDR becomes 3 and grows by 1 per byte (RDR1 master, RDR2 slave and broadcast ..)"
 unfoldable pub withCount : Core → ℕ → Core
@@ -163,7 +160,7 @@ onLevel c bit seen =
 
 -- "With MARQ set and idle as the latest slot, the unit drives start"
 abbrev pub driveAt : Place → Core → Bool → ℕ
-driveAt Waiting c clear = pick (c .idle && takesPart (c .regs) clear) 2 1
+driveAt Waiting c clear = pick (c .idle && takesPart (c .regs) clear) driveStart driveReleased
 driveAt (In field n) c clear = bitOf (driveOf (c .frame) (viewOf (c .regs) clear))
 
 unfoldable pub coreDrive : Core → Bool → ℕ

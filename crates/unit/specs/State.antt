@@ -5,7 +5,7 @@ use mathlib.Core.List.{List, [], _∷_, _++_}
 use lib.Dec.{eqb, ltb}
 use lib.ListN.{length, drop, getD}
 use Rattle.line.specs.Choice.{pick, bitOf}
-use Rattle.line.specs.Numbers.{rbfBytes, tbfBytes}
+use Rattle.line.specs.Numbers.{codeAtReset, rbfBytes, tbfBytes}
 use Rattle.frame.specs.Frame.{noFrame}
 use Rattle.frame.specs.Slaves.{writesOf}
 use Rattle.frame.specs.declared.place.View.{View}
@@ -40,8 +40,8 @@ resetRegisters =
       lor2 = 0;
       rdr1 = 0;
       rdr2 = 0;
-      marc = 15;
-      slrc = 15;
+      marc = codeAtReset;
+      slrc = codeAtReset;
       locked = false;
       holder = 0;
     }

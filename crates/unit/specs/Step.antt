@@ -20,8 +20,8 @@ use Rattle.unit.specs.Slots.{onStart, onIdle, onLevel, coreDrive}
 use Rattle.unit.specs.Registers.{Told, wrote, restarted, gave, denied, toldOf}
 
 -- what the unit drives in the next slot
-unfoldable pub driveOf : State → ℕ
-driveOf s = coreDrive (s .core) (isEmpty (s .rbf))
+unfoldable pub nextDrive : State → ℕ
+nextDrive s = coreDrive (s .core) (isEmpty (s .rbf))
 
 -- ---- slots
 
@@ -30,7 +30,7 @@ actedOn s a = record { core = a .core; tbf = tbfAfter (a .act) (s .tbf); rbf = r
 
 -- number 5: "level 1 while the unit drives 0"
 unfoldable pub clashes : State → Bool → Bool
-clashes s bit = bit && eqb (driveOf s) 0
+clashes s bit = bit && eqb (nextDrive s) 0
 
 unfoldable pub slotOn : State → Slot → State
 slotOn s (Level bit) = pick (clashes s bit) s (actedOn s (onLevel (s .core) bit (seenOf (s .tbf) (s .rbf))))
@@ -39,9 +39,9 @@ slotOn s Idle = actedOn s (onIdle (s .core))
 slotOn s Stray = s
 
 unfoldable pub slotSaid : State → State → Slot → Answer
-slotSaid s t (Level bit) = pick (clashes s bit) (Refused refusedLevel) (Given (Taken (driveOf t)))
-slotSaid s t Start = Given (Taken (driveOf t))
-slotSaid s t Idle = Given (Taken (driveOf t))
+slotSaid s t (Level bit) = pick (clashes s bit) (Refused refusedLevel) (Given (Taken (nextDrive t)))
+slotSaid s t Start = Given (Taken (nextDrive t))
+slotSaid s t Idle = Given (Taken (nextDrive t))
 slotSaid s t Stray = Refused refusedStrayBit
 
 -- ---- host words
@@ -54,9 +54,9 @@ toldOn s (gave rbf v) = record { core = s .core; tbf = s .tbf; rbf = rbf }
 toldOn s (denied n) = s
 
 abbrev pub toldSaid : State → Told → Answer
-toldSaid t (wrote r tbf) = Given (Written (driveOf t))
-toldSaid t restarted = Given (Written (driveOf t))
-toldSaid t (gave rbf v) = Given (Read v (driveOf t))
+toldSaid t (wrote r tbf) = Given (Written (nextDrive t))
+toldSaid t restarted = Given (Written (nextDrive t))
+toldSaid t (gave rbf v) = Given (Read v (nextDrive t))
 toldSaid t (denied n) = Refused n
 
 -- ---- any word
@@ -78,8 +78,7 @@ unfoldable pub answerOf : State → ℕ → Answer
 answerOf s w = saidAs (classOf w) s (stepOf s w) w
 
 -- "Answers: 8 slot taken, 9 written, 10 read (bits 7-0 value), 15 refused (bits 7-0 number). Kinds 8 to 10 carry in
--- bits
--- 9-8 what the unit drives in the next slot"
+-- bits 9-8 what the unit drives in the next slot"
 unfoldable pub wordOf : Answer → ℕ
 wordOf (Given (Taken d)) = kindTaken * 0x1000_0000 + d % 4 * 256
 wordOf (Given (Written d)) = kindWritten * 0x1000_0000 + d % 4 * 256

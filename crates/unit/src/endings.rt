@@ -2,10 +2,10 @@
 ghost use mathlib.Core.Bool.{false};
 ghost use mathlib.Core.Path.{_≡_};
 ghost use Prim.Native.Nat.{_≤_};
-ghost use Rattle.line.specs.Choice.{pick};
 ghost use Rattle.unit.specs.Endings.{cutOf, dataEnded, draws, endCode, endedOf, frees, leftOf, lengthEnded};
 ghost use Rattle.unit.specs.Endings.{lockAfter};
-ghost use Rattle.unit.specs.Endings.{lockedTo, partEnded, receptionEnded, requestEnded, sendingEnded};
+ghost use Rattle.unit.specs.Endings.{lockedTo, partEnded, receptionCode, receptionEnded, requestEnded};
+ghost use Rattle.unit.specs.Endings.{sendingEnded};
 ghost use Rattle.unit.specs.Endings.{slaveEnded, ties, unlocked};
 ghost use Rattle.unit.specs.Set.{registers·marc, registers·marq, registers·slrc, registers·slre};
 ghost use Rattle.unit.specs.Set.{registers·strq};
@@ -17,6 +17,11 @@ use frame::place::Field;
 use frame::place::Frame;
 use frame::place::Place;
 use frame::writes;
+use line::numbers::CODE_ABORTED;
+use line::numbers::CODE_BROADCAST_RECEIVING;
+use line::numbers::CODE_NORMAL;
+use line::numbers::CODE_RECEIVING;
+use line::numbers::CODE_SENDING;
 
 // "Codes, in the order started, data wanted or full, normal, aborted": the code of an end, from that of the start.
 fn end_code(started: u8, whole: bool) -> u8
@@ -24,9 +29,19 @@ fn end_code(started: u8, whole: bool) -> u8
     ensures { λ r. ⌜ r ≡ endCode started whole ⌝ }
 {
     if whole {
-        return started + 2;
+        return started + CODE_NORMAL;
     }
-    started + 3
+    started + CODE_ABORTED
+}
+
+// "Receptions at length accepted": the code with which one starts.
+pub(crate) fn reception_code(frame: Frame) -> u8
+    ensures { λ r. ⌜ (r ≡ receptionCode frame) × (r ≤ 8) ⌝ }
+{
+    if !frame.leads & frame.broadcast {
+        return CODE_BROADCAST_RECEIVING;
+    }
+    CODE_RECEIVING
 }
 
 // What is sent comes from TBF: a master's, and a slave's with 3H or 7H.
@@ -113,10 +128,10 @@ pub(crate) fn request_ended(core: Core, whole: bool) -> Acted
 {
     let regs = core.regs;
     if writes(regs.control) {
-        let over = request_over(regs, end_code(0, whole));
+        let over = request_over(regs, end_code(CODE_SENDING, whole));
         return core.with_regs(over).acting(Act::Empty);
     }
-    let over = request_over(regs, end_code(4, whole));
+    let over = request_over(regs, end_code(CODE_RECEIVING, whole));
     core.with_regs(over).acting(Act::Nothing)
 }
 
@@ -124,18 +139,8 @@ pub(crate) fn request_ended(core: Core, whole: bool) -> Acted
 fn sending_ended(core: Core, whole: bool) -> Acted
     ensures { λ r. ⌜ r ≡ sendingEnded core whole ⌝ }
 {
-    let over = sending_over(core.regs, end_code(0, whole));
+    let over = sending_over(core.regs, end_code(CODE_SENDING, whole));
     core.with_regs(over).acting(Act::Empty)
-}
-
-// The code with which a slave's reception started: 8 of a broadcast, 4 of any other.
-fn received_from(broadcast: bool) -> u8
-    ensures { λ r. ⌜ (r ≡ pick broadcast 8 4) × (r ≤ 8) ⌝ }
-{
-    if broadcast {
-        return 8;
-    }
-    4
 }
 
 // A slave's reception has ended: ".. or SLRE".
@@ -143,7 +148,7 @@ fn reception_ended(core: Core, whole: bool) -> Acted
     ensures { λ r. ⌜ r ≡ receptionEnded core whole ⌝ }
 {
     let frame = core.frame;
-    let started = received_from(frame.broadcast);
+    let started = reception_code(frame);
     let over = reception_over(core.regs, end_code(started, whole));
     core.with_regs(over).acting(Act::Nothing)
 }

@@ -4,6 +4,7 @@ ghost use mathlib.Core.Path.{_≡_};
 ghost use Prim.Native.Nat.{_+_, _*_};
 ghost use lib.Dec.{eqb};
 ghost use Rattle.line.specs.Choice.{bitOf, pick};
+ghost use Rattle.line.specs.Numbers.{ctrSetSlre};
 ghost use Rattle.unit.specs.Registers.{cmrRefusal, commanded, ctrRefusal, flgByte, lorCopied, mcrListed};
 ghost use Rattle.unit.specs.Registers.{mcrWritten, rcrByte, readRefusal, readValue, requestRefusal, requested};
 ghost use Rattle.unit.specs.Registers.{strByte, tbfRefusal, uar1Written, uarRefusal, writeRefusal, written};
@@ -11,6 +12,13 @@ ghost use Rattle.unit.specs.Set.{registers·lor1, registers·lor2, regis
 ghost use Rattle.unit.specs.Set.{registers·slre, registers·strq};
 use crate::state::Registers;
 use frame::writes;
+use line::numbers::CMR_CLEAR_SLRE;
+use line::numbers::CMR_COPY_LOCK;
+use line::numbers::CMR_OFFER;
+use line::numbers::CMR_REQUEST;
+use line::numbers::CTR_NOTHING;
+use line::numbers::CTR_RESET;
+use line::numbers::CTR_SET_SLRE;
 use line::numbers::RBF_BYTES;
 use line::numbers::REFUSED_EMPTY;
 use line::numbers::REFUSED_FULL;
@@ -19,13 +27,29 @@ use line::numbers::REFUSED_REGISTER;
 use line::numbers::REFUSED_TOO_FEW;
 use line::numbers::REFUSED_UNABLE;
 use line::numbers::REFUSED_VALUE;
+use line::numbers::REG_CMR;
+use line::numbers::REG_CTR;
+use line::numbers::REG_FLG;
+use line::numbers::REG_LOR1;
+use line::numbers::REG_LOR2;
+use line::numbers::REG_MCR;
+use line::numbers::REG_RBF;
+use line::numbers::REG_RCR;
+use line::numbers::REG_RDR1;
+use line::numbers::REG_RDR2;
+use line::numbers::REG_SAR1;
+use line::numbers::REG_SAR2;
+use line::numbers::REG_STR;
+use line::numbers::REG_TBF;
+use line::numbers::REG_UAR1;
+use line::numbers::REG_UAR2;
 use line::numbers::TBF_BYTES;
 
 // "CTR (00H nothing, 08H reset, 10H set SLRE)".
 fn ctr_refusal(v: u8) -> u8
     ensures { λ r. ⌜ r ≡ ctrRefusal v ⌝ }
 {
-    if (v == 0x00) | (v == 0x08) | (v == 0x10) {
+    if (v == CTR_NOTHING) | (v == CTR_RESET) | (v == CTR_SET_SLRE) {
         return 0;
     }
     REFUSED_VALUE
@@ -35,9 +59,9 @@ fn ctr_refusal(v: u8) -> u8
 fn cmr_refusal(regs: Registers, waiting: usize, v: u8) -> u8
     ensures { λ r. ⌜ r ≡ cmrRefusal regs waiting v ⌝ }
 {
-    let request = v == 0x08;
-    let offer = v == 0x0B;
-    if !(request | offer | (v == 0x0F) | (v == 0x40)) {
+    let request = v == CMR_REQUEST;
+    let offer = v == CMR_OFFER;
+    if !(request | offer | (v == CMR_CLEAR_SLRE) | (v == CMR_COPY_LOCK)) {
         return REFUSED_VALUE;
     }
     if (request | offer) & (regs.marq | regs.strq) {
@@ -101,14 +125,14 @@ pub(crate) fn write_refusal(regs: Registers, waiting: usize, register: u8, v: u8
     ensures { λ r. ⌜ r ≡ writeRefusal regs waiting register v ⌝ }
 {
     match register {
-        0x0 => ctr_refusal(v),
-        0x1 => cmr_refusal(regs, waiting, v),
-        0x2 => uar_refusal(regs, v / 4 % 4 == 0),
-        0x3 => uar_refusal(regs, true),
-        0x4 => request_refusal(regs, v % 16 == 0),
-        0x5 => request_refusal(regs, true),
-        0x6 => request_refusal(regs, mcr_listed(v)),
-        0xE => tbf_refusal(waiting),
+        REG_CTR => ctr_refusal(v),
+        REG_CMR => cmr_refusal(regs, waiting, v),
+        REG_UAR1 => uar_refusal(regs, v / 4 % 4 == 0),
+        REG_UAR2 => uar_refusal(regs, true),
+        REG_SAR1 => request_refusal(regs, v % 16 == 0),
+        REG_SAR2 => request_refusal(regs, true),
+        REG_MCR => request_refusal(regs, mcr_listed(v)),
+        REG_TBF => tbf_refusal(waiting),
         _ => REFUSED_REGISTER,
     }
 }
@@ -162,13 +186,13 @@ fn with_slre(mut regs: Registers, set: bool) -> Registers
 fn command(regs: Registers, v: u8) -> Registers
     ensures { λ r. ⌜ r ≡ commanded regs v ⌝ }
 {
-    if v == 0x08 {
+    if v == CMR_REQUEST {
         return request_made(regs);
     }
-    if v == 0x0B {
+    if v == CMR_OFFER {
         return with_strq(regs);
     }
-    if v == 0x0F {
+    if v == CMR_CLEAR_SLRE {
         return with_slre(regs, false);
     }
     lor_copied(regs)
@@ -215,9 +239,9 @@ fn mcr_written(mut regs: Registers, v: u8) -> Registers
 }
 
 fn ctr_written(regs: Registers, v: u8) -> Registers
-    ensures { λ r. ⌜ r ≡ pick (eqb v 0x10) (registers·slre true regs) regs ⌝ }
+    ensures { λ r. ⌜ r ≡ pick (eqb v ctrSetSlre) (registers·slre true regs) regs ⌝ }
 {
-    if v == 0x10 {
+    if v == CTR_SET_SLRE {
         return with_slre(regs, true);
     }
     regs
@@ -230,12 +254,12 @@ pub(crate) fn write(regs: Registers, register: u8, v: u8) -> Registers
     let half = (v / 16) as u16;
     let byte = v as u16;
     match register {
-        0x0 => ctr_written(regs, v),
-        0x1 => command(regs, v),
-        0x2 => uar1_written(regs, v),
-        0x3 => with_own(regs, byte * 16 + regs.own % 16),
-        0x4 => with_slave(regs, regs.slave / 16 * 16 + half),
-        0x5 => with_slave(regs, byte * 16 + regs.slave % 16),
+        REG_CTR => ctr_written(regs, v),
+        REG_CMR => command(regs, v),
+        REG_UAR1 => uar1_written(regs, v),
+        REG_UAR2 => with_own(regs, byte * 16 + regs.own % 16),
+        REG_SAR1 => with_slave(regs, regs.slave / 16 * 16 + half),
+        REG_SAR2 => with_slave(regs, byte * 16 + regs.slave % 16),
         _ => mcr_written(regs, v),
     }
 }
@@ -244,10 +268,10 @@ pub(crate) fn write(regs: Registers, register: u8, v: u8) -> Registers
 pub(crate) fn read_refusal(register: u8, clear: bool) -> u8
     ensures { λ r. ⌜ r ≡ readRefusal register clear ⌝ }
 {
-    if (register <= 5) | (register == 0x8) {
+    if (register <= REG_LOR2) | (register == REG_RCR) {
         return 0;
     }
-    if register == 0xE {
+    if register == REG_RBF {
         if clear {
             return REFUSED_EMPTY;
         }
@@ -294,12 +318,12 @@ pub(crate) fn read_value(regs: Registers, waiting: usize, stored: usize, registe
     ensures { λ r. ⌜ r ≡ readValue regs waiting stored register ⌝ }
 {
     match register {
-        0x0 => str_byte(waiting, stored),
-        0x1 => flg_byte(regs),
-        0x2 => regs.rdr1,
-        0x3 => regs.rdr2,
-        0x4 => regs.lor1,
-        0x5 => regs.lor2,
+        REG_STR => str_byte(waiting, stored),
+        REG_FLG => flg_byte(regs),
+        REG_RDR1 => regs.rdr1,
+        REG_RDR2 => regs.rdr2,
+        REG_LOR1 => regs.lor1,
+        REG_LOR2 => regs.lor2,
         _ => rcr_byte(regs),
     }
 }

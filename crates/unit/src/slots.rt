@@ -6,11 +6,12 @@ ghost use Rattle.unit.specs.Set.{registers·slrc};
 ghost use Rattle.unit.specs.Slots.{byteDrawn, coreDrive, countOf, counted, headerOf, lastAcked, lengthDrawn};
 ghost use Rattle.unit.specs.Slots.{nextDrawn, onAddressed, onByteAcked, onControlAcked, onEvent, onIdle};
 ghost use Rattle.unit.specs.Slots.{onLengthAcked, onLevel, onLost, onStart, otherParty, receptionBegun};
-ghost use Rattle.unit.specs.Slots.{receptionCode, sendingBegun, wanted, withByte, withCode, withCount};
+ghost use Rattle.unit.specs.Slots.{sendingBegun, wanted, withByte, withCode, withCount};
 use crate::endings::cut;
 use crate::endings::draws_bytes;
 use crate::endings::ended;
 use crate::endings::left;
+use crate::endings::reception_code;
 use crate::endings::request_ended;
 use crate::state::Act;
 use crate::state::Acted;
@@ -21,6 +22,10 @@ use frame::place::Event;
 use frame::place::Frame;
 use frame::place::Place;
 use frame::writes;
+use line::numbers::CODE_SENDING;
+use line::numbers::CODE_WANTED;
+use line::numbers::DRIVE_RELEASED;
+use line::numbers::DRIVE_START;
 
 // "A start slot always begins a frame", from the state that the old frame's end left.
 pub(crate) fn on_start(core: Core, clear: bool) -> Acted
@@ -95,7 +100,7 @@ fn on_addressed(core: Core) -> Core
     let frame = core.frame;
     let regs = core.regs;
     if frame.leads & writes(regs.control) {
-        return core.with_regs(with_marc(regs, 0));
+        return core.with_regs(with_marc(regs, CODE_SENDING));
     }
     core
 }
@@ -119,7 +124,7 @@ fn sending_begun(core: Core) -> Core
     if frame.leads {
         return core;
     }
-    core.with_regs(with_slrc(core.regs, 0))
+    core.with_regs(with_slrc(core.regs, CODE_SENDING))
 }
 
 // "The length and each byte leave TBF as their field first begins."
@@ -148,7 +153,7 @@ fn on_control_acked(core: Core, seen: Seen) -> Acted
 fn data_wanted(frame: Frame, seen: Seen) -> bool
     ensures { λ r. ⌜ r ≡ wanted frame seen ⌝ }
 {
-    (seen.waiting <= 1) & (frame.acked % 512 + 1 < frame.length)
+    (seen.waiting <= 1) & !(frame.length <= frame.acked % 512 + 1)
 }
 
 fn with_byte(mut core: Core, byte: u8) -> Core
@@ -162,7 +167,7 @@ fn byte_drawn(core: Core, seen: Seen) -> Acted
     ensures { λ r. ⌜ r ≡ byteDrawn core seen ⌝ }
 {
     if data_wanted(core.frame, seen) {
-        return with_code(with_byte(core, seen.front), 1).acting(Act::Take);
+        return with_code(with_byte(core, seen.front), CODE_WANTED).acting(Act::Take);
     }
     with_byte(core, seen.front).acting(Act::Take)
 }
@@ -189,16 +194,6 @@ fn header(frame: Frame) -> Act
         low * 16 + frame.control % 16,
         (frame.length % 256) as u8,
     )
-}
-
-// "Receptions at length accepted": 4 received, 8 broadcast.
-fn reception_code(frame: Frame) -> u8
-    ensures { λ r. ⌜ r ≡ receptionCode frame ⌝ }
-{
-    if !frame.leads & frame.broadcast {
-        return 8;
-    }
-    4
 }
 
 // "The RDR becomes 3 and grows by 1 per byte (RDR1 master, RDR2 slave and broadcast ..)".
@@ -334,9 +329,9 @@ pub(crate) fn core_drive(core: Core, clear: bool) -> u8
     match place {
         Place::Waiting => {
             if core.idle & regs.takes_part(clear) {
-                return 2;
+                return DRIVE_START;
             }
-            1
+            DRIVE_RELEASED
         }
         Place::In(_, _) => frame::drive(frame, regs.view(clear)) as u8,
     }

@@ -6,6 +6,7 @@ ghost use Rattle.unit.specs.State.{ownByte, resetCore, resetRegisters, s
 use frame::place::Frame;
 use frame::place::View;
 use frame::writes;
+use line::numbers::CODE_AT_RESET;
 
 // The registers, flags and codes, and the lock: what lasts, without the buffers.
 pub struct Registers {
@@ -90,8 +91,8 @@ impl Registers {
             lor2: 0,
             rdr1: 0,
             rdr2: 0,
-            marc: 15,
-            slrc: 15,
+            marc: CODE_AT_RESET,
+            slrc: CODE_AT_RESET,
             locked: false,
             holder: 0,
         }

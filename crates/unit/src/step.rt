@@ -25,6 +25,7 @@ use crate::slots::on_start;
 use crate::state::Acted;
 use crate::state::Core;
 use crate::state::Seen;
+use line::numbers::CTR_RESET;
 use line::numbers::KIND_READ;
 use line::numbers::KIND_SLOT;
 use line::numbers::KIND_WRITE;
@@ -32,6 +33,9 @@ use line::numbers::RBF_BYTES;
 use line::numbers::REFUSED_KIND;
 use line::numbers::REFUSED_LEVEL;
 use line::numbers::REFUSED_STRAY_BIT;
+use line::numbers::REG_CTR;
+use line::numbers::REG_RBF;
+use line::numbers::REG_TBF;
 use line::numbers::TBF_BYTES;
 use line::slot::Slot;
 use line::slot::slot_of;
@@ -183,12 +187,12 @@ impl Lent {
         ensures { λ r. ⌜ Does self register v (now (tbf .entry)) (now (tbf .exit)) r ⌝ }
     {
         let core = self.core;
-        if register == 0xE {
+        if register == REG_TBF {
             let sent = tbf_push(tbf, self.tbf, v);
             self.tbf = sent;
             return self.written();
         }
-        if (register == 0x0) & (v == 0x08) {
+        if (register == REG_CTR) & (v == CTR_RESET) {
             return Lent::reset().written();
         }
         let next = core.with_regs(write(core.regs, register, v));
@@ -227,7 +231,7 @@ impl Lent {
         let stored = self.rbf;
         let number = read_refusal(register, stored.is_empty(RBF_BYTES));
         if number == 0 {
-            if register == 0xE {
+            if register == REG_RBF {
                 return self.read_rbf(rbf);
             }
             return self.gave(read_value(

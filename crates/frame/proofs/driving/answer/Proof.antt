@@ -1,10 +1,10 @@
-use Rattle.frame.specs.Drive.{answerOf}
+use Rattle.frame.specs.Drive.{repliedOf}
 use borrow.Author.Needs.{needs}
 use Rattle.frame.proofs.driving.answer.Statement.{statement}
 use Rattle.frame.proofs.driving.answer.Tie as tie
 
 pub answer-spec : {M : Type 1} → statement M
-unfolding answerOf
+unfolding repliedOf
 answer-spec =
     tie.close
     (tie.spec

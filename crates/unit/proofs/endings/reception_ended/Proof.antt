@@ -18,5 +18,5 @@ reception-ended-spec =
       c .before .with-regs .ensures,
       c .before .before .reception-over .ensures,
       c .before .before .before .end-code .ensures,
-      c .before .before .before .before .received-from .ensures .0,
+      c .before .before .before .before .reception-code .ensures .0,
     )))

@@ -1,10 +1,11 @@
 use Rattle.unit.specs.Slots.{wanted}
+use Rattle.frame.specs.Step as step
 use borrow.Author.Needs.{needs}
 use Rattle.unit.proofs.slots.data_wanted.Statement.{statement}
 use Rattle.unit.proofs.slots.data_wanted.Tie as tie
 
 pub data-wanted-spec : {M : Type 1} → statement M
-unfolding wanted
+unfolding wanted step.wholeOf
 data-wanted-spec =
     tie.close
     (tie.spec

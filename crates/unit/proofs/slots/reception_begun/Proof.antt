@@ -17,6 +17,6 @@ reception-begun-spec =
       c .acting .ensures,
       c .before .with-count .ensures,
       c .before .before .with-code .ensures,
-      c .before .before .before .reception-code .ensures,
+      c .before .before .before .reception-code .ensures .0,
       ← c .before .before .before .before .header .ensures,
     )))

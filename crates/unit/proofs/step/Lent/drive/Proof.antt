@@ -1,10 +1,10 @@
-use Rattle.unit.specs.Step.{driveOf}
+use Rattle.unit.specs.Step.{nextDrive}
 use borrow.Author.Needs.{needs}
 use Rattle.unit.proofs.step.Lent.drive.Statement.{statement}
 use Rattle.unit.proofs.step.Lent.drive.Tie as tie
 
 pub drive-spec : {M : Type 1} → statement M
-unfolding driveOf
+unfolding nextDrive
 drive-spec =
     tie.close
     (tie.spec
