@@ -5,6 +5,7 @@ pub mod Answers
 pub mod Calm
 pub mod Strangers
 pub mod Protects
+pub mod Ruled
 pub mod Locks
 pub mod Example
 pub mod Asked

@@ -6,6 +6,7 @@ pub mod Endings
 pub mod Slots
 pub mod Registers
 pub mod Step
+pub mod Refusals
 pub mod Machine
 pub mod Queue
 pub mod Both

@@ -2,6 +2,7 @@
 ghost use mathlib.Core.Path.{_≡_};
 ghost use Rattle.unit.specs.Both.{Acts, Clashes, Does, Drives, Fresh, Gives, ReadsFrom, Runs, Sees, SlotsOn};
 ghost use Rattle.unit.specs.Both.{Takes, TakesOut, Tells, Writes, WritesTo, answered, stateOf};
+ghost use Rattle.unit.specs.Refusals.{Ruled};
 ghost use Rattle.unit.specs.State.{reset};
 ghost use Rattle.unit.specs.Step.{answerOf, stepOf};
 use crate::answer::Answer;
@@ -290,6 +291,7 @@ impl Unit {
     pub fn step(self, word: u32) -> Stepped
         ensures { λ r. ⌜ stateOf (r .unit) ≡ stepOf (stateOf self) word ⌝ }
         ensures { λ r. ⌜ r .answer ≡ answerOf (stateOf self) word ⌝ }
+        ensures refusals { λ r. ⌜ Ruled (stateOf self) word (stateOf (r .unit)) (r .answer) ⌝ }
     {
         let tbf = self.tbf;
         let rbf = self.rbf;

@@ -1,4 +1,5 @@
 use borrow.Author.Needs.{needs}
+use Rattle.unit.proofs.Ruled.{ruled}
 use Rattle.unit.proofs.step.Unit.step.Statement.{statement}
 use Rattle.unit.proofs.step.Unit.step.Tie as tie
 
@@ -6,8 +7,13 @@ returns : tie.Need-returns
 returns c =
     let s = c .before .before .before .before .step .ensures in
     let t = c .before .before .before .before .before .before .before .before .before .before .circle .ensures in
-    let r = c .before .before .before .before .before .before .before .before .before .circle2 .ensures in
-    (rw (← t .0, ← r .0) (s .state (t .1) (r .1)), rw (← t .0, ← r .0) (s .answer (t .1) (r .1)))
+    let r = c .before .before .before .before .before .before .before .before .before .circle2 .ensures in (
+      rw (← t .0, ← r .0) (s .state (t .1) (r .1)),
+      (
+        rw (← t .0, ← r .0) (s .answer (t .1) (r .1)),
+        rw (← t .0, ← r .0) (ruled _ _ _ _ (s .state (t .1) (r .1)) (s .answer (t .1) (r .1))),
+      ),
+    )
 
 pub step-spec : {M : Type 1} → statement M
 step-spec = tie.close (tie.spec (λ c κs. search needs) (λ c κs. search needs) (λ c κs. search needs) returns)
