@@ -207,7 +207,7 @@ module _ (s : State) (w v : ℕ) (clean : eqb (w % 0x0100_0000) 0 ≡ true) wher
   RightRead register = ofNumber (readRefusal register (isEmpty (s .rbf))) ≡ lowest (rows s (reads w register v))
 
   at-rbf : RightRead 0xE
-  unfolding readRefusal lowest among
+  unfolding readRefusal lowest among isEmpty
   at-rbf = rw clean (one-row 9 (isEmpty (s .rbf)) refl)
 
   read-right : (register : ℕ) → RightRead register

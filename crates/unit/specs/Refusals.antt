@@ -19,7 +19,7 @@ use Rattle.unit.specs.declared.answer.Answer.{Answer}
 use Rattle.unit.specs.declared.answer.Answer.the-variants.{Given, Refused}
 use Rattle.unit.specs.declared.state.Registers.{Registers}
 use Rattle.unit.specs.Registers.{mcrListed, registerOf, valueOf}
-use Rattle.unit.specs.State.{State, isEmpty}
+use Rattle.unit.specs.State.{State}
 use Rattle.unit.specs.Step.{nextDrive}
 
 -- a word taken apart: all of it, its kind, the register that it names and its value
@@ -105,7 +105,7 @@ tooFew s w =
 
 -- 9: "RBF read when empty"
 abbrev pub rbfEmpty : State → Word → Bool
-rbfEmpty s w = reading w regRbf && isEmpty (s .rbf)
+rbfEmpty s w = reading w regRbf && eqb (length (s .rbf)) 0
 
 -- 10: "CMR 08H individual to the own address; 0BH with sending disabled"
 abbrev pub unable : Registers → Word → Bool

@@ -182,7 +182,7 @@ pub(crate) fn rbf_after(act: Act, bytes: &mut [u8; RBF_BYTES], span: Span) -> Sp
 }
 
 impl Tbf {
-    pub fn new() -> Tbf
+    pub(crate) fn new() -> Tbf
         ensures { λ r. ⌜ tbfOf r ≡ [] ⌝ }
     {
         let span = Span::none();
@@ -201,7 +201,7 @@ impl Tbf {
 }
 
 impl Rbf {
-    pub fn new() -> Rbf
+    pub(crate) fn new() -> Rbf
         ensures { λ r. ⌜ rbfOf r ≡ [] ⌝ }
     {
         let span = Span::none();

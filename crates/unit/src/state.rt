@@ -72,7 +72,7 @@ pub struct Acted {
 
 impl Registers {
     // "Reset: RCR FFH, MCR 80H, all else zero or empty".
-    pub fn reset() -> Registers
+    pub(crate) fn reset() -> Registers
         ensures { λ r. ⌜ r ≡ resetRegisters ⌝ }
     {
         Registers {
@@ -153,7 +153,7 @@ impl Registers {
 
 impl Core {
     // ".. waiting for a start, idle not seen."
-    pub fn reset() -> Core
+    pub(crate) fn reset() -> Core
         ensures { λ r. ⌜ r ≡ resetCore ⌝ }
     {
         let regs = Registers::reset();
