@@ -6,11 +6,15 @@ use native.Mathlib.Omega.{arith}
 use lib.ListN.{length, drop, getD, set, length-set, drop-of-length-le}
 use Rattle.line.proofs.Filled.{Filled, nothing-filled, one-filled, all-filled}
 use Rattle.isolation.specs.Runs.{run, answers}
+use Rattle.unit.specs.Both.{Runs, stateIn}
 use Rattle.unit.specs.Machine.{unit}
 use Rattle.unit.specs.State.{State}
 use Rattle.unit.specs.Step.{stepOf, answerOf, wordOf}
+use Rattle.unit.specs.declared.step.Answered.{Answered}
+use Rattle.unit.specs.declared.step.Lent.{Lent}
+use Rattle.list_run.specs.Run.{Whole}
 use Rattle.list_run.specs.Bytes.{wordsOf, wordAt, wordPut, bytesOf, bytesOfWord}
-use Rattle.list_run.proofs.Underway.{cut, answers-cons, answers-nil}
+use Rattle.list_run.proofs.Underway.{cut, answers-cons, answers-nil, whole-after}
 
 -- the words from a place on: the word there, and those from four bytes further on
 words-cut : (s : List ℕ) (at : ℕ) → at + 4 ≤ length s → wordsOf (drop at s) ≡ wordAt s at ∷ wordsOf (drop (at + 4) s)
@@ -77,3 +81,18 @@ pub all-spelled : {s₀ s : State} {words first now : List ℕ} {at : ℕ} → S
 all-spelled {s₀} {s} {words} {first} {now} {at} d h =
     let all : at ≡ length words = omega (arith, d .within) in
     rw (← all) (all-filled (rw (drop-of-length-le words h, words-nil, answers-nil, bytes-nil) at (d .filled)))
+
+-- ---- the same by a unit whose buffers are lent
+
+abbrev pub SpelledIn : State → List ℕ → List ℕ → Lent → List ℕ → List ℕ → List ℕ → ℕ → Type 0
+SpelledIn s₀ words first u t r now at = Spelled s₀ words first (stateIn u t r) now at × Whole t r
+
+pub one-spelled-in : {s₀ : State} {words first now t t' r r' : List ℕ} {at w : ℕ} {u : Lent} {a : Answered}
+    → SpelledIn s₀ words first u t r now at → at < length words → length words ≤ length first
+    → w ≡ wordAt words at → Runs u w t t' r r' a → (v : ℕ) → v ≡ wordOf (a .answer)
+    → SpelledIn s₀ words first (a .lent) t' r' (wordPut now at v) (at + 4)
+one-spelled-in {u = u} {a = a} (d, whole) h room word ran v e = (
+  one-spelled d h room _ (ran .state (whole .0) (whole .1) ∙ ap (stepOf _) word) v
+      (e ∙ ap wordOf (ran .answer (whole .0) (whole .1) ∙ ap (answerOf _) word)),
+  whole-after whole ran,
+)

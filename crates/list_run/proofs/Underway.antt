@@ -8,9 +8,13 @@ use lib.ListN.{length, drop, getD, set, drop-of-length-le}
 use lib.Seq.{drop-cons}
 use Rattle.line.proofs.Filled.{Filled, nothing-filled, one-filled, all-filled}
 use Rattle.isolation.specs.Runs.{run, answers}
+use Rattle.unit.specs.Both.{Runs, stateIn}
 use Rattle.unit.specs.Machine.{unit}
 use Rattle.unit.specs.State.{State}
 use Rattle.unit.specs.Step.{stepOf, answerOf, wordOf}
+use Rattle.unit.specs.declared.step.Answered.{Answered}
+use Rattle.unit.specs.declared.step.Lent.{Lent}
+use Rattle.list_run.specs.Run.{Whole}
 
 pub run-cons : (s : State) (w : ℕ) (ws : List ℕ) → run unit s (w ∷ ws) ≡ run unit (stepOf s w) ws
 unfolding run
@@ -63,3 +67,22 @@ all-run {s₀} {s} {words} {first} {now} {i} d h =
       sym (d .states ∙ rw (drop-of-length-le words h, run-nil)),
       rw (← all) (all-filled (rw (drop-of-length-le words h, answers-nil) at (d .filled))),
     )
+
+-- ---- the same by a unit whose buffers are lent
+
+abbrev pub UnderwayIn : State → List ℕ → List ℕ → Lent → List ℕ → List ℕ → List ℕ → ℕ → Type 0
+UnderwayIn s₀ words first u t r now i = Underway s₀ words first (stateIn u t r) now i × Whole t r
+
+-- they stay whole
+pub whole-after : {u : Lent} {w : ℕ} {t t' r r' : List ℕ} {a : Answered} → Whole t r → Runs u w t t' r r' a
+    → Whole t' r'
+whole-after whole ran = (ran .tbf-kept ∙ whole .0, ran .rbf-kept ∙ whole .1)
+
+pub one-run-in : {s₀ : State} {words first now t t' r r' : List ℕ} {i : ℕ} {u : Lent} {a : Answered}
+    → UnderwayIn s₀ words first u t r now i → i < length words → length words ≤ length first
+    → Runs u (getD words i 0) t t' r r' a → (v : ℕ) → v ≡ wordOf (a .answer)
+    → UnderwayIn s₀ words first (a .lent) t' r' (set now i v) (i + 1)
+one-run-in (d, whole) h room ran v e = (
+  one-run d h room _ (ran .state (whole .0) (whole .1)) v (e ∙ ap wordOf (ran .answer (whole .0) (whole .1))),
+  whole-after whole ran,
+)

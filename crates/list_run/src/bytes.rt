@@ -50,9 +50,9 @@ fn put_word(bytes: &mut [u8], at: usize, word: u32)
 // `words`; then nothing is written.
 #[no_mangle]
 pub extern "C" fn iebus_run(words: &[u8], answers: &mut [u8]) -> u32
-    ensures number { λ r. ⌜ r ≡ byteRefusal (now (words .entry)) (now (answers .entry)) ⌝ }
-    ensures written { λ _. ⌜ now (answers .exit) ≡ bytesAfter (now (words .entry)) (now (answers .entry)) ⌝ }
-    ensures protected { λ _. ⌜ Protected unit ⌝ }
+    ensures { λ r. ⌜ r ≡ byteRefusal (now (words .entry)) (now (answers .entry)) ⌝ }
+    ensures { λ _. ⌜ now (answers .exit) ≡ bytesAfter (now (words .entry)) (now (answers .entry)) ⌝ }
+    ensures { λ _. ⌜ Protected unit ⌝ }
 {
     // "The lowest number wins": the count comes before the answer list.
     if words.len() % WORD_BYTES != 0 {

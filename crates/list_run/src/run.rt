@@ -3,7 +3,7 @@ ghost use mathlib.Core.Path.{_≡_};
 ghost use Prim.Native.Nat.{_≤_};
 ghost use lib.ListN.{length};
 ghost use Rattle.isolation.specs.Runs.{Protected};
-ghost use Rattle.unit.specs.Both.{stateOf};
+ghost use Rattle.unit.specs.Both.{stateIn, stateOf};
 ghost use Rattle.unit.specs.Machine.{unit};
 ghost use Rattle.list_run.specs.Run.{RunsLent, Whole, answersAfter, listRefusal, numberOf, unitAfter};
 use line::numbers::RBF_BYTES;
@@ -56,13 +56,33 @@ fn run_lent(
     lent
 }
 
+fn unit_of(lent: Lent, sent: [u8; TBF_BYTES], stored: [u8; RBF_BYTES]) -> Unit
+    ensures { λ r. ⌜ stateOf r ≡ stateIn lent sent stored ⌝ }
+{
+    let core = lent.core;
+    let tbf = lent.tbf;
+    let rbf = lent.rbf;
+    Unit {
+        core,
+        tbf: Tbf {
+            bytes: sent,
+            span: tbf,
+        },
+        rbf: Rbf {
+            bytes: stored,
+            span: rbf,
+        },
+    }
+}
+
 // The words run from the unit given. The answer to words[i] stands at answers[i]; places past the last answer keep
-// their contents. Where the answer list is shorter than the word list, nothing is run and nothing written.
+// their contents. Where the answer list is shorter than the word list, nothing is run and nothing written. The holder
+// of the lock is protected from everybody else's frames, in the unit that is left and in the answers.
 pub fn run(from: Unit, words: &[u32], answers: &mut [u32]) -> Finished
-    ensures number { λ r. ⌜ numberOf (r .outcome) ≡ listRefusal (now (words .entry)) (now (answers .entry)) ⌝ }
-    ensures unit { λ r. ⌜ stateOf (r .unit) ≡ unitAfter (stateOf from) (now (words .entry)) (now (answers .entry)) ⌝ }
-    ensures written { λ _. ⌜ now (answers .exit) ≡ answersAfter (stateOf from) (now (words .entry)) (now (answers .entry)) ⌝ }
-    ensures protected { λ _. ⌜ Protected unit ⌝ }
+    ensures { λ r. ⌜ numberOf (r .outcome) ≡ listRefusal (now (words .entry)) (now (answers .entry)) ⌝ }
+    ensures { λ r. ⌜ stateOf (r .unit) ≡ unitAfter (stateOf from) (now (words .entry)) (now (answers .entry)) ⌝ }
+    ensures { λ _. ⌜ now (answers .exit) ≡ answersAfter (stateOf from) (now (words .entry)) (now (answers .entry)) ⌝ }
+    ensures { λ _. ⌜ Protected unit ⌝ }
 {
     if answers.len() < words.len() {
         return Finished {
@@ -83,21 +103,8 @@ pub fn run(from: Unit, words: &[u32], answers: &mut [u32]) -> Finished
         rbf: stored_span,
     };
     let after = run_lent(lent, words, answers, &mut sent, &mut stored);
-    let next_core = after.core;
-    let next_sent = after.tbf;
-    let next_stored = after.rbf;
     Finished {
-        unit: Unit {
-            core: next_core,
-            tbf: Tbf {
-                bytes: sent,
-                span: next_sent,
-            },
-            rbf: Rbf {
-                bytes: stored,
-                span: next_stored,
-            },
-        },
+        unit: unit_of(after, sent, stored),
         outcome: Outcome::Ran,
     }
 }
