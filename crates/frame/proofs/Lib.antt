@@ -1,2 +1,3 @@
 -- The laws that the proofs of this library and of those above it share.
 pub mod Values
+pub mod Direction

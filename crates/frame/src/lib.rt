@@ -2,9 +2,11 @@
 // is handed to it as plain values (`View`); what a slot brings about is handed back as an `Event`, on which the unit
 // acts. No public function has a `requires`, and nothing is assumed.
 mod driving;
+mod header;
 mod judging;
 pub mod place;
 mod step;
+mod text;
 
 pub use driving::drive;
 pub use judging::writes;

@@ -1,7 +1,7 @@
 -- The two ways of a test.
 use mathlib.Core.Bool.{Bool, true, false}
 use mathlib.Core.Logic.{_⊎_, inl, inr, ⊎-elim}
-use mathlib.Core.Path.{_≡_, refl, sym, _∙_}
+use mathlib.Core.Path.{_≡_, refl, sym, subst, _∙_}
 use Prim.Native.Nat.{ℕ, _<_, _≤_}
 use borrow.Author.Tests.{eq-eqb, ne-eqb, eqb-true, eqb-false, ltb-true, ltb-false}
 use lib.Dec.{eqb, ltb}
@@ -21,3 +21,8 @@ pub eqb-alike : (a b c d : ℕ) → (a ≡ b → c ≡ d) → (c ≡ d → a ≡
 eqb-alike a b c d f g =
     ⊎-elim (λ e. eq-eqb a b e ∙ sym (eq-eqb c d (f e))) (λ n. ne-eqb a b n ∙ sym (ne-eqb c d (λ e. n (g e))))
     (same-or-not a b)
+
+-- what holds at k and, elsewhere, at n holds at n
+pub by-value : (P : ℕ → Type 0) (n k : ℕ) → P k → (eqb n k ≡ false → P n) → P n
+by-value P n k at other =
+    ⊎-elim (λ e. subst P (sym (eqb-true n k e)) at) (λ e. other e) (either (eqb n k))

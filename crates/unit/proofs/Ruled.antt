@@ -4,13 +4,13 @@ use mathlib.Core.Bool.{Bool, true, false, not, _&&_, _||_}
 use mathlib.Core.Logic.{⊎-elim}
 use mathlib.Core.List.{List, [], _∷_}
 use mathlib.Core.Path.{_≡_, refl, sym, ap, _∙_, subst}
-use borrow.Author.Tests.{eqb-true, eqb-false, le-leb, lt-leb}
+use borrow.Author.Tests.{eqb-false, le-leb, lt-leb}
 use native.Mathlib.Omega.{arith}
 use lib.Dec.{T, eqb, leb, ltb}
 use lib.ListN.{drop, getD, length, List·getD-eq-default}
 use Rattle.line.specs.Choice.{pick}
 use Rattle.line.specs.Slot.{Class, slot, host, classOf, kindOf, slotOf, slots}
-use Rattle.line.proofs.Either.{either}
+use Rattle.line.proofs.Either.{by-value, either}
 use Rattle.line.specs.declared.slot.Slot.{Slot}
 use Rattle.line.specs.declared.slot.Slot.the-variants.{Level, Start, Idle, Stray}
 use Rattle.frame.specs.Slaves.{writesOf}
@@ -45,16 +45,7 @@ told-ruling t restarted = refl
 told-ruling t (gave rbf v) = refl
 told-ruling t (denied n) = refl
 
--- ---- laws of choice
-
--- what holds at k and, elsewhere, at n holds at n
-by-value : (P : ℕ → Type 0) (n k : ℕ) → P k → (eqb n k ≡ false → P n) → P n
-by-value P n k at other =
-    go (eqb n k) refl
-  where
-    go : (b : Bool) → eqb n k ≡ b → P n
-    go true e = subst P (sym (eqb-true n k e)) at
-    go false e = other e
+-- ---- a few rows
 
 -- a refusal's number by its conditions, and the rows of those conditions as they stand in the tables
 one-row : (n : ℕ) (x : Bool) → eqb n 0 ≡ false → ofNumber (pick x n 0) ≡ pick x (refused n) accepted
