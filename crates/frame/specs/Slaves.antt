@@ -52,7 +52,8 @@ controls strq ready locked =
 unfoldable pub byValue : ℕ → Bool → Bool → Bool → Judged
 byValue control strq ready locked = getD (controls strq ready locked) control Nak
 
--- a stranger gets NAK for all but what is open to it
+-- a stranger gets NAK for all but what is open to it, which no broadcast is taken with: "A locked unit passes over
+-- broadcasts of others than the holder."
 unfoldable pub controlOf : ℕ → Bool → Bool → Bool → Bool → Judged
 controlOf control strange strq ready locked =
     pick (strange && not (openTo control)) Nak (byValue control strq ready locked)

@@ -80,6 +80,7 @@ lorCopied r =
 unfoldable pub requested : Registers → Registers
 requested r = r ▹ registers·marq true ▹ registers·losses 0 ▹ registers·rdr1 0
 
+-- "0FH clear SLRE, a reception whose control was accepted going on": the frame under way is left as it is
 unfoldable pub commanded : Registers → ℕ → Registers
 commanded r v =
     pick (eqb v cmrRequest) (requested r)

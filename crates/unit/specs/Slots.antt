@@ -109,7 +109,7 @@ countOf c = pick (c .frame .leads) (c .regs .rdr1) (c .regs .rdr2)
 unfoldable pub receptionBegun : Core → Acted
 receptionBegun c = acted (headerOf (c .frame)) (withCount (withCode c (receptionCode (c .frame))) 3)
 
--- the first data field begins
+-- the first data field begins; "a status or lock byte is fixed when its data field first begins"
 unfoldable pub onLengthAcked : Core → Seen → Acted
 onLengthAcked c seen =
     pick (draws (c .frame)) (byteDrawn c seen)

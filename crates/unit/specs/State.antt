@@ -57,7 +57,7 @@ reset = record { core = resetCore; tbf = []; rbf = [] }
 unfoldable pub isEmpty : List ℕ → Bool
 isEmpty bytes = eqb (length bytes) 0
 
--- a byte behind the others, where there is room
+-- a byte behind the others, where there is room; "RBF cannot fill yet", since a reception begins with RBF empty
 unfoldable pub pushOf : ℕ → List ℕ → ℕ → List ℕ
 pushOf room bytes b = pick (ltb (length bytes) room) (bytes ++ b ∷ []) bytes
 

@@ -46,6 +46,7 @@ slotSaid s t Stray = Refused refusedStrayBit
 
 -- ---- host words
 
+-- "A refusal changes no state"
 abbrev pub toldOn : State → Told → State
 toldOn s (wrote r tbf) =
     record { core = core·regs r (s .core); tbf = tbf; rbf = s .rbf }
