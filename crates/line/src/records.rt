@@ -19,10 +19,10 @@ const WORD_HALF: u32 = 65536;
 fn places(count: usize) -> usize
     ensures { λ r. ⌜ r ≡ min count mostContenders ⌝ }
 {
-    if count < MOST_CONTENDERS {
-        return count;
+    if MOST_CONTENDERS <= count {
+        return MOST_CONTENDERS;
     }
-    MOST_CONTENDERS
+    count
 }
 
 // One record, handed on as two numbers.
