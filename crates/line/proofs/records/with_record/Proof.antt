@@ -81,8 +81,9 @@ module _ {M : Type 1} (𝓤 : URA M) (H : Heap 𝓤) (A : Atoms 𝓤) (W : Given
     abbrev held : Val
     held = LL.val T.the-type T′.the-laws one
 
-    abbrev Held : Fml
-    Held = S.the-row .own all (v₀ ∷ [])
+    -- what the gathered value owns
+    abbrev Has : Fml
+    Has = S.the-row .own all (v₀ ∷ [])
 
     abbrev to : Core .Ghost
     to = (
@@ -96,9 +97,9 @@ module _ {M : Type 1} (𝓤 : URA M) (H : Heap 𝓤) (A : Atoms 𝓤) (W : Given
       tt,
     )
 
-    asked : i < 2 ^ 64 → one .bit < 2 ^ 8 → one .address < 2 ^ 16 → ent 𝓤 (⋆ 𝓤 H A (‵ Held ∷ [])) (Core .pre to)
+    asked : i < 2 ^ 64 → one .bit < 2 ^ 8 → one .address < 2 ^ 16 → ent 𝓤 (⋆ 𝓤 H A (‵ Has ∷ [])) (Core .pre to)
     asked g g₀ g₁ =
-        qed W (‵ Held ∷ []) ∵ nothing ! $
+        qed W (‵ Has ∷ []) ∵ nothing ! $
         owned ! u16 (Is u16) (uint-makes 𝓤 H A W w16) (one .address) (vint w16 (one .address) ∷ []) (refl, g₁) $
         fjoin ! $
         owned ! u8 (Is u8) (uint-makes 𝓤 H A W w8) (one .bit) (vint w8 (one .bit) ∷ []) (refl, g₀) $ fjoin ! $
