@@ -164,7 +164,7 @@ static uint32_t draw(uint32_t below)
 }
 
 /* 0 to 60 records. In each list the addresses come from 4, 64 or 4096, so many are alike in some lists and few in
-   others; in every third list a few records are out of range. */
+   others; in every third list a few records are out of range, half of them by one. */
 static struct trial random_trial(void)
 {
     static const uint16_t widths[] = {4, 64, 0x1000};
@@ -176,9 +176,9 @@ static struct trial random_trial(void)
     for (uint32_t wrong = draw(3) ? 0 : 1 + draw(3); wrong > 0 && t.len > 0; wrong--) {
         struct iebus_contender *record = &t.records[draw((uint32_t)t.len)];
         if (draw(2))
-            record->bit = (uint8_t)(2 + draw(254));
+            record->bit = (uint8_t)(2 + draw(draw(2) ? 1 : 254));
         else
-            record->address = (uint16_t)(0x1000 + draw(0xF000));
+            record->address = (uint16_t)(0x1000 + draw(draw(2) ? 1 : 0xF000));
     }
     t.lost_len = draw(8) ? t.len + draw(SPARE + 1) : draw((uint32_t)t.len + 1);
     return t;
