@@ -1,0 +1,5 @@
+-- The definitions that a reader has to believe: a line, the last line, the whole listing.
+pub mod Hex
+pub mod Last
+pub mod Listing
+pub mod Writing
