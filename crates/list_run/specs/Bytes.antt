@@ -1,23 +1,26 @@
--- Document 01, "Words": "The same run from a reset unit is exported to the bench host, written in C, over byte
--- slices, each
--- word little-endian; it returns 0 or a refusal."
+-- Document 01, "Words": "The same run from a reset unit is exported to the bench host, written in C, over byte slices,
+-- each word little-endian; it returns 0 or a refusal."
 use mathlib.Core.List.{List, [], _∷_, _++_}
 use Prim.Native.Nat.{ℕ, _+_, _*_, _/_, _%_}
 use lib.Dec.{eqb, ltb}
-use lib.ListN.{length, drop}
+use lib.ListN.{length, drop, getD, set}
 use Rattle.line.specs.Choice.{pick}
 use Rattle.line.specs.Numbers.{refusedByteCount, refusedShortList}
 use Rattle.isolation.specs.Runs.{answers}
 use Rattle.unit.specs.Machine.{unit}
 use Rattle.unit.specs.State.{reset}
 
--- the words that a list of bytes spells, the lowest byte first
+-- a word from its bytes, the lowest first
+abbrev pub wordFrom : ℕ → ℕ → ℕ → ℕ → ℕ
+wordFrom a b c d = a + b * 0x100 + c * 0x1_0000 + d * 0x100_0000
+
+-- the words that a list of bytes spells
 unfoldable pub wordsOf : List ℕ → List ℕ
 wordsOf [] = []
 wordsOf (a ∷ []) = []
 wordsOf (a ∷ b ∷ []) = []
 wordsOf (a ∷ b ∷ c ∷ []) = []
-wordsOf (a ∷ b ∷ c ∷ d ∷ rest) = (a + b * 0x100 + c * 0x1_0000 + d * 0x100_0000) ∷ wordsOf rest
+wordsOf (a ∷ b ∷ c ∷ d ∷ rest) = wordFrom a b c d ∷ wordsOf rest
 
 -- a word's bytes, and those of a list of words
 abbrev pub bytesOfWord : ℕ → List ℕ
@@ -26,6 +29,15 @@ bytesOfWord w = w % 256 ∷ w / 0x100 % 256 ∷ w / 0x1_0000 % 256 ∷ w / 0x100
 unfoldable pub bytesOf : List ℕ → List ℕ
 bytesOf [] = []
 bytesOf (w ∷ ws) = bytesOfWord w ++ bytesOf ws
+
+-- the word at a place of a list of bytes, and the list once a word is written there
+abbrev pub wordAt : List ℕ → ℕ → ℕ
+wordAt s at = wordFrom (getD s at 0) (getD s (at + 1) 0) (getD s (at + 2) 0) (getD s (at + 3) 0)
+
+abbrev pub wordPut : List ℕ → ℕ → ℕ → List ℕ
+wordPut s at w =
+    set (set (set (set s at (w % 256)) (at + 1) (w / 0x100 % 256)) (at + 2) (w / 0x1_0000 % 256)) (at + 3)
+    (w / 0x100_0000 % 256)
 
 -- 11: "count not a multiple of 4"; 12: "answer .. list shorter than its input"; else 0
 unfoldable pub byteRefusal : List ℕ → List ℕ → ℕ

@@ -1,15 +1,24 @@
--- Document 01, "Words": "A list run takes a lent list of words and writes each answer into a second lent list, from
--- a given
--- state." "Places past the last answer keep their contents."
+-- Document 01, "Words": "A list run takes a lent list of words and writes each answer into a second lent list, from a
+-- given state." "Places past the last answer keep their contents."
 use mathlib.Core.List.{List, _++_}
+use mathlib.Core.Path.{_≡_}
 use Prim.Native.Nat.{ℕ}
 use lib.Dec.{eqb, ltb}
 use lib.ListN.{length, drop}
 use Rattle.line.specs.Choice.{pick}
-use Rattle.line.specs.Numbers.{refusedShortList}
+use Rattle.line.specs.Numbers.{rbfBytes, refusedShortList, tbfBytes}
 use Rattle.isolation.specs.Runs.{run, answers}
+use Rattle.unit.specs.Both.{stateIn}
 use Rattle.unit.specs.Machine.{unit}
 use Rattle.unit.specs.State.{State}
+use Rattle.unit.specs.declared.step.Lent.{Lent}
+use Rattle.list_run.specs.declared.run.Outcome.{Outcome}
+use Rattle.list_run.specs.declared.run.Outcome.the-variants.{Ran, ShortList}
+
+-- the paper's number for each way in which a run ends, 0 where nothing is refused
+unfoldable pub numberOf : Outcome → ℕ
+numberOf Ran = 0
+numberOf ShortList = refusedShortList
 
 -- number 12: "answer .. list shorter than its input"; 0 is no refusal
 unfoldable pub listRefusal : List ℕ → List ℕ → ℕ
@@ -22,3 +31,14 @@ unitAfter s words out = pick (eqb (listRefusal words out) 0) (run unit s words) 
 -- the answer list afterwards; "11 and above write nothing"
 unfoldable pub answersAfter : State → List ℕ → List ℕ → List ℕ
 answersAfter s words out = pick (eqb (listRefusal words out) 0) (answers unit s words ++ drop (length words) out) out
+
+-- ---- a unit whose buffers are lent: the bytes of TBF and of RBF
+
+-- they are lent with all their bytes
+abbrev pub Whole : List ℕ → List ℕ → Type 0
+Whole t r = (length t ≡ tbfBytes) × (length r ≡ rbfBytes)
+
+-- what a run of it promises where there is room for the answers; a name with a dash is what is left afterwards
+pub record RunsLent (u : Lent) (words out out' t t' r r' : List ℕ) (u' : Lent) : Type 0 where
+  pub state : stateIn u' t' r' ≡ run unit (stateIn u t r) words
+  pub written : out' ≡ answers unit (stateIn u t r) words ++ drop (length words) out

@@ -1,1 +1,4 @@
-// The list run and the exported run over bytes. So far the definitions of `specs/`; the code comes with its proofs.
+// The list run, and the same run from a reset unit for a host in C. No public function has a `requires`, and nothing
+// is assumed.
+pub mod bytes;
+pub mod run;

@@ -1,0 +1,98 @@
+-- The run over bytes that is under way: words that bytes spell, and answers written four bytes at a time.
+use mathlib.Core.Path.{_≡_, refl, sym, ap, _∙_}
+use mathlib.Core.List.{List, [], _∷_, _++_}
+use Prim.Native.Nat.{ℕ, zero, suc, _+_, _-_, _%_, _≤_, _<_}
+use native.Mathlib.Omega.{arith}
+use lib.ListN.{length, drop, getD, set, length-set, drop-of-length-le}
+use Rattle.line.proofs.Filled.{Filled, nothing-filled, one-filled, all-filled}
+use Rattle.isolation.specs.Runs.{run, answers}
+use Rattle.unit.specs.Both.{Runs, stateIn}
+use Rattle.unit.specs.Machine.{unit}
+use Rattle.unit.specs.State.{State}
+use Rattle.unit.specs.Step.{stepOf, answerOf, wordOf}
+use Rattle.unit.specs.declared.step.Answered.{Answered}
+use Rattle.unit.specs.declared.step.Lent.{Lent}
+use Rattle.list_run.specs.Run.{Whole}
+use Rattle.list_run.specs.Bytes.{wordsOf, wordAt, wordPut, bytesOf, bytesOfWord}
+use Rattle.list_run.proofs.Underway.{cut, answers-cons, answers-nil, whole-after}
+
+-- the words from a place on: the word there, and those from four bytes further on
+words-cut : (s : List ℕ) (at : ℕ) → at + 4 ≤ length s → wordsOf (drop at s) ≡ wordAt s at ∷ wordsOf (drop (at + 4) s)
+unfolding wordsOf
+words-cut s at h =
+    let two : at + 1 + 1 ≡ at + 2 = omega arith in
+    let three : at + 2 + 1 ≡ at + 3 = omega arith in
+    let four : at + 3 + 1 ≡ at + 4 = omega arith in
+    let b : drop (at + 1) s ≡ getD s (at + 1) 0 ∷ drop (at + 2) s = rw two at (cut s (at + 1) (omega arith)) in
+    let c : drop (at + 2) s ≡ getD s (at + 2) 0 ∷ drop (at + 3) s = rw three at (cut s (at + 2) (omega arith)) in
+    let d : drop (at + 3) s ≡ getD s (at + 3) 0 ∷ drop (at + 4) s = rw four at (cut s (at + 3) (omega arith)) in
+    rw (cut s at (omega arith), b, c, d)
+
+bytes-cons : (w : ℕ) (ws : List ℕ) → bytesOf (w ∷ ws) ≡ bytesOfWord w ++ bytesOf ws
+unfolding bytesOf
+bytes-cons w ws = refl
+
+words-nil : wordsOf [] ≡ []
+unfolding wordsOf
+words-nil = refl
+
+bytes-nil : bytesOf [] ≡ []
+unfolding bytesOf
+bytes-nil = refl
+
+-- a word written at the next place
+word-filled : {whole first now rest : List ℕ} {at : ℕ} (w : ℕ) → Filled whole first now (bytesOfWord w ++ rest) at
+    → at + 4 ≤ length first → Filled whole first (wordPut now at w) rest (at + 4)
+word-filled {whole} {first} {now} {rest} {at} w f room =
+    let two : at + 1 + 1 ≡ at + 2 = omega arith in
+    let three : at + 2 + 1 ≡ at + 3 = omega arith in
+    let four : at + 3 + 1 ≡ at + 4 = omega arith in
+    let a = one-filled _ f (omega (arith, f .long)) in
+    let b = rw two at (one-filled _ a (omega (arith, a .long))) in
+    let c = rw three at (one-filled _ b (omega (arith, b .long))) in
+    rw four at (one-filled _ c (omega (arith, c .long)))
+
+-- after the words in the first `at` bytes: the state is s, the answer bytes are `now`
+pub record Spelled (s₀ : State) (words first : List ℕ) (s : State) (now : List ℕ) (at : ℕ) : Type 0 where
+  pub filled : Filled (bytesOf (answers unit s₀ (wordsOf words))) first now
+      (bytesOf (answers unit s (wordsOf (drop at words)))) at
+  pub within : at ≤ length words
+  pub whole : (length words - at) % 4 ≡ 0
+
+pub none-spelled : (s₀ : State) (words first : List ℕ) → length words % 4 ≡ 0 → Spelled s₀ words first s₀ first 0
+none-spelled s₀ words first h = record { filled = nothing-filled _ _; within = omega arith; whole = omega arith }
+
+pub one-spelled : {s₀ s : State} {words first now : List ℕ} {at : ℕ} → Spelled s₀ words first s now at
+    → at < length words → length words ≤ length first
+    → (s′ : State) → s′ ≡ stepOf s (wordAt words at) → (v : ℕ) → v ≡ wordOf (answerOf s (wordAt words at))
+    → Spelled s₀ words first s′ (wordPut now at v) (at + 4)
+one-spelled {s₀} {s} {words} {first} {now} {at} d h room s′ e v ev =
+    let inside : at + 4 ≤ length words = omega (arith, d .whole) in
+    record {
+      filled = word-filled v (rw (words-cut words at inside, answers-cons, ← e, ← ev, bytes-cons) at (d .filled))
+          (omega arith);
+      within = inside;
+      whole = omega (arith, d .whole);
+    }
+
+pub all-spelled : {s₀ s : State} {words first now : List ℕ} {at : ℕ} → Spelled s₀ words first s now at
+    → length words ≤ at
+    → now ≡ bytesOf (answers unit s₀ (wordsOf words)) ++ drop (length words) first
+all-spelled {s₀} {s} {words} {first} {now} {at} d h =
+    let all : at ≡ length words = omega (arith, d .within) in
+    rw (← all) (all-filled (rw (drop-of-length-le words h, words-nil, answers-nil, bytes-nil) at (d .filled)))
+
+-- ---- the same by a unit whose buffers are lent
+
+abbrev pub SpelledIn : State → List ℕ → List ℕ → Lent → List ℕ → List ℕ → List ℕ → ℕ → Type 0
+SpelledIn s₀ words first u t r now at = Spelled s₀ words first (stateIn u t r) now at × Whole t r
+
+pub one-spelled-in : {s₀ : State} {words first now t t' r r' : List ℕ} {at w : ℕ} {u : Lent} {a : Answered}
+    → SpelledIn s₀ words first u t r now at → at < length words → length words ≤ length first
+    → w ≡ wordAt words at → Runs u w t t' r r' a → (v : ℕ) → v ≡ wordOf (a .answer)
+    → SpelledIn s₀ words first (a .lent) t' r' (wordPut now at v) (at + 4)
+one-spelled-in {u = u} {a = a} (d, whole) h room word ran v e = (
+  one-spelled d h room _ (ran .state (whole .0) (whole .1) ∙ ap (stepOf _) word) v
+      (e ∙ ap wordOf (ran .answer (whole .0) (whole .1) ∙ ap (answerOf _) word)),
+  whole-after whole ran,
+)

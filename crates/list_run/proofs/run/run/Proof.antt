@@ -1,0 +1,22 @@
+use borrow.Author.Needs.{needs}
+use borrow.Author.Tests.{lt-ltb, le-ltb}
+use mathlib.Core.Path.{_∙_}
+use Rattle.unit.proofs.Protects.{holds}
+use Rattle.list_run.specs.Run.{answersAfter, listRefusal, numberOf, unitAfter}
+use Rattle.list_run.proofs.run.run.Statement.{statement}
+use Rattle.list_run.proofs.run.run.Tie as tie
+
+pub run-spec : {M : Type 1} → statement M
+unfolding numberOf listRefusal unitAfter answersAfter
+run-spec =
+    tie.close
+    (tie.spec
+    (λ c. let short = lt-ltb _ _ (c .if1 .taken) in (simp short, (simp short, (simp short, holds))))
+    (λ c κs. search needs)
+    (λ c κs. search needs)
+    (λ c. search needs)
+    (λ c. let at = c .before .before .before in
+    let ran = at .run-lent .ensures in
+    let room = le-ltb _ _ (at .before .before .before .before .before .before .before .before .before .before
+    .before .if1 .left) in
+    (simp room, (c .unit-of .ensures ∙ ran .state ∙ simp room, (ran .written ∙ simp room, holds)))))
