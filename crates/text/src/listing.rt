@@ -83,6 +83,7 @@ pub fn listing(input: &[u8], answers: &[u8], text: &mut [u8]) -> usize
     ensures written { λ r. ⌜
         now (text .exit) ≡ listedOf (now (input .entry)) (now (answers .entry)) (length (now (text .entry)))
         ++ drop r (now (text .entry)) ⌝ }
+    ensures within { λ r. ⌜ r ≤ length (now (text .entry)) ⌝ }
 {
     if text.len() < LISTING_BYTES {
         return 0;

@@ -15,7 +15,7 @@ unfolding listedOf lastText
 listing-spec =
     tie.close
     (tie.spec
-    (λ c. (simp (lt-ltb _ _ (c .if1 .taken)), simp (lt-ltb _ _ (c .if1 .taken))))
+    (λ c. (simp (lt-ltb _ _ (c .if1 .taken)), (simp (lt-ltb _ _ (c .if1 .taken)), search needs)))
     (λ c κs. search needs)
     (λ c κs. search needs)
     (λ c. search needs)
@@ -33,7 +33,7 @@ listing-spec =
     let is = sym (judged .last-line .ensures) ∙ c .enum-told .given .1 in
     let fits = lines .before .before .if1 .left in (
       sym (add-zero _) ∙ listed-length Nothing (lines .put-lines .ensures .0) is fits,
-      without-last (lines .put-lines .ensures .0) is fits,
+      (without-last (lines .put-lines .ensures .0) is fits, search needs),
     ))
     (λ c. search needs)
     (λ c. let told = c .before .before .before .before .before in
@@ -42,7 +42,7 @@ listing-spec =
     let is = sym (judged .last-line .ensures) ∙ told .enum-told2 .given .1 in
     let fits = lines .before .before .if1 .left in (
       listed-length Short (lines .put-lines .ensures .0) is fits,
-      c .before .before .put .ensures ∙ with-last Short (lines .put-lines .ensures .0) is fits,
+      (c .before .before .put .ensures ∙ with-last Short (lines .put-lines .ensures .0) is fits, search needs),
     ))
     (λ c. search needs)
     (λ c. let told = c .before .before .before .before .before in
@@ -51,5 +51,5 @@ listing-spec =
     let is = sym (judged .last-line .ensures) ∙ told .enum-told3 .given .1 in
     let fits = lines .before .before .if1 .left in (
       listed-length More (lines .put-lines .ensures .0) is fits,
-      c .before .before .put2 .ensures ∙ with-last More (lines .put-lines .ensures .0) is fits,
+      (c .before .before .put2 .ensures ∙ with-last More (lines .put-lines .ensures .0) is fits, search needs),
     )))
