@@ -10,6 +10,7 @@ use libc::STDIN_FILENO;
 use libc::STDOUT_FILENO;
 use list_run::bytes::iebus_run;
 use text::last::MOST_BYTES;
+use text::last::WORD_BYTES;
 use text::listing::LISTING_BYTES;
 use text::listing::listing;
 
@@ -24,7 +25,7 @@ fn whole_words(bytes: usize) -> usize
     if MOST_BYTES < bytes {
         return MOST_BYTES;
     }
-    bytes - bytes % 4
+    bytes - bytes % WORD_BYTES
 }
 
 // The listing of an input goes to the front of the text, whose rest stays as it was; the number says how long it is.

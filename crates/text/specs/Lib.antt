@@ -1,4 +1,5 @@
--- The definitions that a reader has to believe: a line, the last line, the whole listing.
+-- The definitions that a reader has to believe: a line, the last line, the whole listing; then what private
+-- functions cite.
 pub mod Hex
 pub mod Last
 pub mod Listing

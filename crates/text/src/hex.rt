@@ -2,6 +2,9 @@
 ghost use mathlib.Core.Path.{_≡_};
 ghost use Rattle.text.specs.Hex.{digitOf, lineOf};
 
+// Eight digits, a space, eight digits and the line's end.
+pub const LINE_BYTES: usize = 18;
+
 // The capital digit of a number's lowest four bits.
 fn digit(n: u32) -> u8
     ensures { λ r. ⌜ r ≡ digitOf n ⌝ }
@@ -15,7 +18,7 @@ fn digit(n: u32) -> u8
 }
 
 // The word, a space, the answer and the line's end.
-pub fn line(word: u32, answer: u32) -> [u8; 18]
+pub fn line(word: u32, answer: u32) -> [u8; LINE_BYTES]
     ensures { λ r. ⌜ r ≡ lineOf word answer ⌝ }
 {
     [

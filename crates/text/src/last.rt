@@ -2,6 +2,9 @@
 ghost use mathlib.Core.Path.{_≡_};
 ghost use Rattle.text.specs.Last.{lastOf};
 
+// How many bytes spell a word.
+pub const WORD_BYTES: usize = 4;
+
 // Every word that is read is listed, up to this many bytes of input: 4,096 words.
 pub const MOST_BYTES: usize = 16384;
 
@@ -18,7 +21,7 @@ pub fn last_line(bytes: usize) -> Last
     if MOST_BYTES < bytes {
         return Last::More;
     }
-    if bytes % 4 != 0 {
+    if bytes % WORD_BYTES != 0 {
         return Last::Short;
     }
     Last::Nothing

@@ -5,8 +5,15 @@ ghost use Prim.Native.Nat.{_+_, _<_, _≤_};
 ghost use lib.ListN.{length, drop, getD};
 ghost use Rattle.text.specs.Listing.{listedOf, wordAt, wordsListed};
 ghost use Rattle.text.specs.Writing.{LinesIn, pasted};
+use crate::hex::LINE_BYTES;
+use crate::hex::line;
 use crate::last::Last;
 use crate::last::MOST_BYTES;
+use crate::last::WORD_BYTES;
+use crate::last::last_line;
+
+// "word answer" and the line's end.
+const HEADER_BYTES: usize = 12;
 
 // Room for every listing: 12 bytes of header, 18 for each of 4,096 words, and 6 of `short`, the longer last line.
 pub const LISTING_BYTES: usize = 73746;
@@ -25,7 +32,7 @@ fn word_at(bytes: &[u8], place: usize) -> u32
     requires { ⌜ place < 4096 ⌝ }
     ensures { λ r. ⌜ r ≡ wordAt (now (bytes .entry)) place ⌝ }
 {
-    let at = place * 4;
+    let at = place * WORD_BYTES;
     byte_at(bytes, at)
         + byte_at(bytes, at + 1) * 0x100
         + byte_at(bytes, at + 2) * 0x1_0000
@@ -37,9 +44,9 @@ fn words_listed(bytes: usize) -> usize
     ensures { λ r. ⌜ (r ≡ wordsListed bytes) × (r ≤ 4096) ⌝ }
 {
     if MOST_BYTES < bytes {
-        return MOST_BYTES / 4;
+        return MOST_BYTES / WORD_BYTES;
     }
-    bytes / 4
+    bytes / WORD_BYTES
 }
 
 // Writes a piece into the text, from a place on.
@@ -63,12 +70,12 @@ fn put_lines(input: &[u8], answers: &[u8], text: &mut [u8]) -> usize
 {
     put(text, 0, b"word answer\n");
     let count = words_listed(input.len());
-    let mut at: usize = 12;
+    let mut at: usize = HEADER_BYTES;
     let mut i: usize = 0;
     while i < count {
-        let line = crate::hex::line(word_at(input, i), word_at(answers, i));
-        put(text, at, &line);
-        at += 18;
+        let listed = line(word_at(input, i), word_at(answers, i));
+        put(text, at, &listed);
+        at += LINE_BYTES;
         i += 1;
     }
     at
@@ -89,7 +96,7 @@ pub fn listing(input: &[u8], answers: &[u8], text: &mut [u8]) -> usize
         return 0;
     }
     let at = put_lines(input, answers, text);
-    let last = crate::last::last_line(input.len());
+    let last = last_line(input.len());
     match last {
         Last::Nothing => at,
         Last::Short => {
