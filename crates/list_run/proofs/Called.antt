@@ -44,7 +44,7 @@ module _ {s t : State} {words before after : List ℕ} (call : Called s words be
 -- a call of `iebus_run` that returns a number and leaves the answer bytes `after`
 pub record CalledBytes (words before : List ℕ) (number : ℕ) (after : List ℕ) : Type 0 where
   pub ends : number ≡ byteRefusal words before
-  pub written : after ≡ bytesAfter words before
+  pub written : after ≡ bytesAfter reset words before
   pub protected : Protected unit
 
 -- an answer has 32 bits, and its four bytes spell it again
