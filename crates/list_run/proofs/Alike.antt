@@ -14,8 +14,9 @@ use Rattle.isolation.specs.Words.{framed, keeps, marks}
 use Rattle.isolation.specs.Runs.{Behind, Compared, Given, Places, Protected, answers, driven, run, shown}
 use Rattle.unit.specs.Machine.{observed, unit}
 use Rattle.unit.specs.State.{State, reset}
-use Rattle.list_run.specs.Bytes.{wordsOf}
-use Rattle.list_run.proofs.Called.{Called, CalledBytes, state-left, answers-first, answers-later}
+use Rattle.list_run.specs.Bytes.{CalledBytes, wordsOf}
+use Rattle.list_run.specs.Run.{Called}
+use Rattle.list_run.proofs.Called.{state-left, answers-first, answers-later}
 
 -- ---- a word that is kept lies in its list
 

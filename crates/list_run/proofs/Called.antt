@@ -1,11 +1,11 @@
--- What a caller knows of a run: the contracts of `run` and `iebus_run`, and nothing of the code.
+-- What a caller makes of the contracts of `run` and `iebus_run`, knowing nothing of the code.
 use mathlib.Core.Path.{_≡_, refl, ap, _∙_}
 use mathlib.Core.List.{List, [], _∷_, _++_, append-assoc}
 use Prim.Native.Nat.{ℕ, suc, _+_, _*_, _/_, _%_, _<_}
 use native.Mathlib.Omega.{arith}
 use lib.ListN.{length, take, drop}
 use lib.Seq.{drop-at, take-at}
-use Rattle.isolation.specs.Runs.{Protected, run, answers}
+use Rattle.isolation.specs.Runs.{run, answers}
 use Rattle.unit.specs.Machine.{unit}
 use Rattle.unit.specs.State.{State, reset}
 use Rattle.isolation.proofs.Appended.{answers-append}
@@ -13,15 +13,8 @@ use Rattle.unit.specs.declared.answer.Answer.{Answer}
 use Rattle.unit.specs.declared.answer.Answer.the-variants.{Given, Refused}
 use Rattle.unit.specs.declared.answer.Reply.the-variants.{Taken, Written, Read}
 use Rattle.unit.specs.Step.{answerOf, stepOf, wordOf}
-use Rattle.list_run.specs.Run.{answersAfter, listRefusal, unitAfter}
-use Rattle.list_run.specs.Bytes.{byteRefusal, bytesAfter, bytesOf, wordFrom, wordsOf}
-
--- a call of `run` from the state s that ends with a number, leaves the state t and the answer list `after`
-pub record Called (s : State) (words before : List ℕ) (number : ℕ) (t : State) (after : List ℕ) : Type 0 where
-  pub ends : number ≡ listRefusal words before
-  pub left : t ≡ unitAfter s words before
-  pub written : after ≡ answersAfter s words before
-  pub protected : Protected unit
+use Rattle.list_run.specs.Run.{Called, answersAfter, unitAfter}
+use Rattle.list_run.specs.Bytes.{CalledBytes, bytesAfter, bytesOf, wordFrom, wordsOf}
 
 -- one answer for each word
 pub answers-length : (s : State) (words : List ℕ) → length (answers unit s words) ≡ length words
@@ -40,12 +33,6 @@ module _ {s t : State} {words before after : List ℕ} (call : Called s words be
       rw (call .written, ← call .ends) (take-at (answers unit s words) _ (length words) (answers-length s words))
 
 -- ---- the same over bytes
-
--- a call of `iebus_run` that returns a number and leaves the answer bytes `after`
-pub record CalledBytes (words before : List ℕ) (number : ℕ) (after : List ℕ) : Type 0 where
-  pub ends : number ≡ byteRefusal words before
-  pub written : after ≡ bytesAfter reset words before
-  pub protected : Protected unit
 
 -- an answer has 32 bits, and its four bytes spell it again
 answer-fits : (a : Answer) → wordOf a < 0x1_0000_0000

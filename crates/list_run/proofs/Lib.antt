@@ -4,3 +4,4 @@ pub mod Spelled
 pub mod Called
 pub mod Several
 pub mod Alike
+pub mod Rulings

@@ -8,7 +8,8 @@ use Rattle.isolation.specs.Runs.{run}
 use Rattle.isolation.proofs.Appended.{run-append, answers-append}
 use Rattle.unit.specs.Machine.{unit}
 use Rattle.unit.specs.State.{State}
-use Rattle.list_run.proofs.Called.{Called, state-left, answers-first}
+use Rattle.list_run.specs.Run.{Called}
+use Rattle.list_run.proofs.Called.{state-left, answers-first}
 
 -- two calls, the second from the unit that the first left, against one call for the two lists as one
 module _ {s t t′ u : State} {A B first first′ second second′ both both′ : List ℕ}

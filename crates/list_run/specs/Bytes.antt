@@ -7,10 +7,10 @@ use lib.Dec.{eqb, ltb}
 use lib.ListN.{length, drop, getD, set}
 use Rattle.line.specs.Choice.{pick}
 use Rattle.line.specs.Numbers.{refusedByteCount, refusedShortList}
-use Rattle.isolation.specs.Runs.{run, answers}
+use Rattle.isolation.specs.Runs.{Protected, run, answers}
 use Rattle.unit.specs.Both.{stateIn}
 use Rattle.unit.specs.Machine.{unit}
-use Rattle.unit.specs.State.{State}
+use Rattle.unit.specs.State.{State, reset}
 use Rattle.unit.specs.declared.step.Lent.{Lent}
 
 -- a word from its bytes, the lowest first
@@ -58,6 +58,12 @@ stateAfter s words out = pick (eqb (byteRefusal words out) 0) (run unit s (words
 unfoldable pub bytesAfter : State → List ℕ → List ℕ → List ℕ
 bytesAfter s words out =
     pick (eqb (byteRefusal words out) 0) (bytesOf (answers unit s (wordsOf words)) ++ drop (length words) out) out
+
+-- what a call of `iebus_run` promises, which returns a number and leaves the answer bytes `after`; the last is demand 3
+pub record CalledBytes (words before : List ℕ) (number : ℕ) (after : List ℕ) : Type 0 where
+  pub ends : number ≡ byteRefusal words before
+  pub written : after ≡ bytesAfter reset words before
+  pub protected : Protected unit
 
 -- ---- a unit whose buffers are lent
 

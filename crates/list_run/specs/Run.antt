@@ -7,7 +7,7 @@ use lib.Dec.{eqb, ltb}
 use lib.ListN.{length, drop}
 use Rattle.line.specs.Choice.{pick}
 use Rattle.line.specs.Numbers.{rbfBytes, refusedShortList, tbfBytes}
-use Rattle.isolation.specs.Runs.{run, answers}
+use Rattle.isolation.specs.Runs.{Protected, run, answers}
 use Rattle.unit.specs.Both.{stateIn}
 use Rattle.unit.specs.Machine.{unit}
 use Rattle.unit.specs.State.{State}
@@ -31,6 +31,14 @@ unitAfter s words out = pick (eqb (listRefusal words out) 0) (run unit s words) 
 -- the answer list afterwards; "11 and above write nothing"
 unfoldable pub answersAfter : State → List ℕ → List ℕ → List ℕ
 answersAfter s words out = pick (eqb (listRefusal words out) 0) (answers unit s words ++ drop (length words) out) out
+
+-- what a call of `run` from the state s promises, which ends with a number and leaves the state t and the answer list
+-- `after`; the last is demand 3
+pub record Called (s : State) (words before : List ℕ) (number : ℕ) (t : State) (after : List ℕ) : Type 0 where
+  pub ends : number ≡ listRefusal words before
+  pub left : t ≡ unitAfter s words before
+  pub written : after ≡ answersAfter s words before
+  pub protected : Protected unit
 
 -- ---- a unit whose buffers are lent: the bytes of TBF and of RBF
 

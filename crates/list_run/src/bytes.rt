@@ -3,11 +3,8 @@
 ghost use mathlib.Core.Path.{_≡_};
 ghost use Prim.Native.Nat.{_+_, _<_, _≤_};
 ghost use lib.ListN.{length};
-ghost use Rattle.isolation.specs.Runs.{Protected};
 ghost use Rattle.unit.specs.Both.{stateOf};
-ghost use Rattle.unit.specs.Machine.{unit};
-ghost use Rattle.unit.specs.State.{reset};
-ghost use Rattle.list_run.specs.Bytes.{RunsSpelled, byteRefusal, bytesAfter, countRefusal, stateAfter};
+ghost use Rattle.list_run.specs.Bytes.{CalledBytes, RunsSpelled, byteRefusal, bytesAfter, countRefusal, stateAfter};
 ghost use Rattle.list_run.specs.Bytes.{wordAt, wordPut};
 ghost use Rattle.list_run.specs.Run.{Whole};
 use crate::run::unit_of;
@@ -135,9 +132,7 @@ pub fn run_bytes(from: Unit, words: &[u8], answers: &mut [u8]) -> RanBytes
 // The words run from a reset unit.
 #[no_mangle]
 pub extern "C" fn iebus_run(words: &[u8], answers: &mut [u8]) -> u32
-    ensures { λ r. ⌜ r ≡ byteRefusal (now (words .entry)) (now (answers .entry)) ⌝ }
-    ensures { λ _. ⌜ now (answers .exit) ≡ bytesAfter reset (now (words .entry)) (now (answers .entry)) ⌝ }
-    ensures { λ _. ⌜ Protected unit ⌝ }
+    ensures { λ r. ⌜ CalledBytes (now (words .entry)) (now (answers .entry)) r (now (answers .exit)) ⌝ }
 {
     let ran = run_bytes(Unit::reset(), words, answers);
     ran.number

@@ -2,10 +2,8 @@
 ghost use mathlib.Core.Path.{_≡_};
 ghost use Prim.Native.Nat.{_≤_};
 ghost use lib.ListN.{length};
-ghost use Rattle.isolation.specs.Runs.{Protected};
 ghost use Rattle.unit.specs.Both.{stateIn, stateOf};
-ghost use Rattle.unit.specs.Machine.{unit};
-ghost use Rattle.list_run.specs.Run.{RunsLent, Whole, answersAfter, listRefusal, numberOf, unitAfter};
+ghost use Rattle.list_run.specs.Run.{Called, RunsLent, Whole, numberOf};
 use line::numbers::RBF_BYTES;
 use line::numbers::TBF_BYTES;
 use unit::answer::Answer;
@@ -79,10 +77,8 @@ pub(crate) fn unit_of(lent: Lent, sent: [u8; TBF_BYTES], stored: [u8; RBF_BYTES]
 // their contents. Where the answer list is shorter than the word list, nothing is run and nothing written. The holder
 // of the lock is protected from everybody else's frames, in the unit that is left and in the answers.
 pub fn run(from: Unit, words: &[u32], answers: &mut [u32]) -> Finished
-    ensures { λ r. ⌜ numberOf (r .outcome) ≡ listRefusal (now (words .entry)) (now (answers .entry)) ⌝ }
-    ensures { λ r. ⌜ stateOf (r .unit) ≡ unitAfter (stateOf from) (now (words .entry)) (now (answers .entry)) ⌝ }
-    ensures { λ _. ⌜ now (answers .exit) ≡ answersAfter (stateOf from) (now (words .entry)) (now (answers .entry)) ⌝ }
-    ensures { λ _. ⌜ Protected unit ⌝ }
+    ensures { λ r. ⌜ Called (stateOf from) (now (words .entry)) (now (answers .entry)) (numberOf (r .outcome))
+        (stateOf (r .unit)) (now (answers .exit)) ⌝ }
 {
     if answers.len() < words.len() {
         return Finished {

@@ -14,4 +14,8 @@ iebus-run-spec =
     (λ c. search needs)
     (λ c. let at = c .before .before in
     let ran = at .run-bytes .ensures in
-    (ran .0, (ran .1 .1 ∙ same-answers _ _ _ _ (at .before .before .reset .ensures), holds))))
+    record {
+      ends = ran .0;
+      written = ran .1 .1 ∙ same-answers _ _ _ _ (at .before .before .reset .ensures);
+      protected = holds;
+    }))

@@ -11,7 +11,7 @@ unfolding numberOf listRefusal unitAfter answersAfter
 run-spec =
     tie.close
     (tie.spec
-    (λ c. let short = lt-ltb _ _ (c .if1 .taken) in (simp short, (simp short, (simp short, holds))))
+    (λ c. let short = lt-ltb _ _ (c .if1 .taken) in record { ends = simp short; left = simp short; written = simp short; protected = holds })
     (λ c κs. search needs)
     (λ c κs. search needs)
     (λ c. search needs)
@@ -19,4 +19,9 @@ run-spec =
     let ran = at .run-lent .ensures in
     let room = le-ltb _ _ (at .before .before .before .before .before .before .before .before .before .before
     .before .if1 .left) in
-    (simp room, (c .unit-of .ensures ∙ ran .state ∙ simp room, (ran .written ∙ simp room, holds)))))
+    record {
+      ends = simp room;
+      left = c .unit-of .ensures ∙ ran .state ∙ simp room;
+      written = ran .written ∙ simp room;
+      protected = holds;
+    }))
