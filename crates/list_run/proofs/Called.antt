@@ -66,7 +66,7 @@ spelled-again w l =
     let lowest : w % 256 + w / 0x100 * 256 ≡ w = omega arith in
     omega (arith, top, high, low, lowest)
 
-answers-spelled : (s : State) (ws rest : List ℕ)
+pub answers-spelled : (s : State) (ws rest : List ℕ)
     → wordsOf (bytesOf (answers unit s ws) ++ rest) ≡ answers unit s ws ++ wordsOf rest
 unfolding answers bytesOf wordsOf
 answers-spelled s [] rest = refl
