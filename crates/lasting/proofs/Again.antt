@@ -1,0 +1,170 @@
+-- A state from the bytes that keep it: decoding an encoding gives the state back.
+use mathlib.Core.Bool.{Bool, true, false}
+use mathlib.Core.Path.{_≡_, refl, sym, ap, _∙_}
+use mathlib.Core.List.{List, [], _∷_, _++_, append-assoc, append-nil}
+use Prim.Native.Nat.{ℕ, suc, _+_, _*_, _/_, _%_, _≤_, _<_}
+use native.Mathlib.Omega.{arith}
+use borrow.Rule.Slice.PartMut.{putMid}
+use lib.ListN.{length, take, drop, getD, drop-of-length-le, length-append, length-drop}
+use lib.Seq.{take-all, take-at, drop-at}
+use Rattle.line.specs.Choice.{bitOf}
+use Rattle.line.specs.Numbers.{rbfBytes, tbfBytes}
+use Rattle.frame.specs.declared.place.Field.{Field}
+use Rattle.frame.specs.declared.place.Field.the-variants.{Broadcast, Master, Slave, Control, Length, Data}
+use Rattle.frame.specs.declared.place.Frame.{Frame}
+use Rattle.frame.specs.declared.place.Place.{Place}
+use Rattle.frame.specs.declared.place.Place.the-variants.{Waiting, In}
+use Rattle.unit.specs.State.{State}
+use Rattle.unit.specs.declared.state.Registers.{Registers}
+use Rattle.lasting.specs.Calls.{Keeps}
+use Rattle.lasting.specs.Layout.{frameEnd, idlePlace, part, registersEnd, stateBytes, tbfEnd}
+use Rattle.lasting.specs.Encode.{Fits, FrameFits, RegistersFit, bufferBytes, encode, frameBytes, high, low}
+use Rattle.lasting.specs.Encode.{placeCount, placeNumber, registerBytes}
+use Rattle.lasting.specs.Decode.{bufferIn, decode, flagOf, frameIn, joined, placeOf, registersIn}
+use Rattle.lasting.proofs.Parts.{buffer-length, held-same, placed}
+
+pair-again : (n : ℕ) → n < 0x1_0000 → joined (low n) (high n) ≡ n
+pair-again n h = omega arith
+
+flag-again : (b : Bool) → flagOf (bitOf b) ≡ b
+flag-again true = refl
+flag-again false = refl
+
+place-again : (p : Place) → placeOf (placeNumber p) (placeCount p) ≡ p
+unfolding placeOf placeNumber placeCount
+place-again Waiting = refl
+place-again (In Broadcast n) = refl
+place-again (In Master n) = refl
+place-again (In Slave n) = refl
+place-again (In Control n) = refl
+place-again (In Length n) = refl
+place-again (In Data n) = refl
+
+registers-again : (r : Registers) → RegistersFit r → registersIn (registerBytes r) ≡ r
+unfolding registersIn registerBytes
+registers-again r f =
+    simp (
+      pair-again (r .own) (f .own),
+      pair-again (r .slave) (f .slave),
+      pair-again (r .holder) (f .holder),
+      flag-again (r .enabled),
+      flag-again (r .long),
+      flag-again (r .bit),
+      flag-again (r .marq),
+      flag-again (r .strq),
+      flag-again (r .slre),
+      flag-again (r .locked),
+    )
+
+frame-again : (f : Frame) (idle : ℕ) → FrameFits f → frameIn (frameBytes f ++ idle ∷ []) ≡ f
+unfolding frameIn frameBytes
+frame-again f idle h =
+    simp (
+      place-again (f .spot .place),
+      pair-again (f .shift) (h .shift),
+      pair-again (f .master) (h .master),
+      pair-again (f .slave) (h .slave),
+      pair-again (f .length) (h .length),
+      pair-again (f .acked) (h .acked),
+      flag-again (f .broadcast),
+      flag-again (f .sound),
+      flag-again (f .ack),
+      flag-again (f .leads),
+      flag-again (f .sends),
+    )
+
+buffer-again : (room : ℕ) (l : List ℕ) → length l ≤ room → bufferIn room (bufferBytes room l) ≡ l
+unfolding bufferIn bufferBytes
+buffer-again room l h = rw (held-same room (length l) h) (take-at l _ (length l) refl)
+
+-- ---- the parts of an encoding
+
+module _ (s : State) (fits : Fits s) where
+  registers-part : part 0 registersEnd (encode s) ≡ registerBytes (s .core .regs)
+  unfolding encode registerBytes
+  registers-part = refl
+
+  frame-part : part registersEnd frameEnd (encode s) ≡ frameBytes (s .core .frame) ++ bitOf (s .core .idle) ∷ []
+  unfolding encode registerBytes frameBytes
+  frame-part = refl
+
+  idle-part : getD (encode s) idlePlace 0 ≡ bitOf (s .core .idle)
+  unfolding encode registerBytes frameBytes
+  idle-part = refl
+
+  buffers-part : drop frameEnd (encode s) ≡ bufferBytes tbfBytes (s .tbf) ++ bufferBytes rbfBytes (s .rbf)
+  unfolding encode registerBytes frameBytes
+  buffers-part = refl
+
+  tbf-part : part frameEnd tbfEnd (encode s) ≡ bufferBytes tbfBytes (s .tbf)
+  tbf-part =
+      ap (take 34) buffers-part
+      ∙ take-at (bufferBytes tbfBytes (s .tbf)) _ 34 (buffer-length tbfBytes (s .tbf) (fits .tbf))
+
+  rbf-start : drop tbfEnd (encode s) ≡ bufferBytes rbfBytes (s .rbf)
+  unfolding encode registerBytes frameBytes
+  rbf-start =
+      drop-at (bufferBytes tbfBytes (s .tbf)) (bufferBytes rbfBytes (s .rbf)) 34
+      (buffer-length tbfBytes (s .tbf) (fits .tbf))
+
+  rbf-part : part tbfEnd stateBytes (encode s) ≡ bufferBytes rbfBytes (s .rbf)
+  rbf-part =
+      ap (take 41) rbf-start
+      ∙ take-all 41 (bufferBytes rbfBytes (s .rbf)) (omega (arith, buffer-length rbfBytes (s .rbf) (fits .rbf)))
+
+  pub decoded : decode (encode s) ≡ s
+  unfolding decode
+  decoded =
+      rw (
+        registers-part,
+        frame-part,
+        idle-part,
+        tbf-part,
+        rbf-part,
+        registers-again (s .core .regs) (fits .regs),
+        frame-again (s .core .frame) (bitOf (s .core .idle)) (fits .frame),
+        flag-again (s .core .idle),
+        buffer-again tbfBytes (s .tbf) (fits .tbf),
+        buffer-again rbfBytes (s .rbf) (fits .rbf),
+      )
+
+-- ---- the parts, lent and given back one after the other
+
+put-parts : (t R F T B : List ℕ) → length t ≡ stateBytes → length R ≡ 22 → length F ≡ 22 → length T ≡ 34
+    → length B ≡ 41
+    → putMid 78 41 (putMid 44 34 (putMid 22 22 (R ++ drop 22 t) F) T) B ≡ R ++ (F ++ (T ++ B))
+put-parts t R F T B size r f l b =
+    let two : putMid 22 22 (R ++ drop 22 t) F ≡ (R ++ F) ++ drop 22 (drop 22 t) = placed R (drop 22 t) F 22 22 r f in
+    let n : length (R ++ F) ≡ 44 = omega (arith, length-append R F) in
+    let m : length ((R ++ F) ++ T) ≡ 78 = omega (arith, n, length-append (R ++ F) T) in
+    let d = drop 22 (drop 22 t) in
+    let gone : length (drop 34 d) ≤ 41
+    = omega (arith, length-drop 34 d, length-drop 22 (drop 22 t), length-drop 22 t) in
+    ap (λ (x : List ℕ). putMid 78 41 (putMid 44 34 x T) B) two
+    ∙ ap (λ (x : List ℕ). putMid 78 41 x B) (placed (R ++ F) d T 44 34 n l)
+    ∙ placed ((R ++ F) ++ T) (drop 34 d) B 78 41 m b
+    ∙ ap (λ (x : List ℕ). (((R ++ F) ++ T) ++ B) ++ x) (drop-of-length-le (drop 34 d) gone)
+    ∙ append-nil (((R ++ F) ++ T) ++ B) ∙ simp append-assoc
+
+registers-length : (r : Registers) → length (registerBytes r) ≡ 22
+unfolding registerBytes
+registers-length r = refl
+
+frame-length : (f : Frame) (idle : ℕ) → length (frameBytes f ++ idle ∷ []) ≡ 22
+unfolding frameBytes
+frame-length f idle = refl
+
+-- bytes over which the parts of a state were written keep it
+pub kept : (s : State) → Fits s → (t R F T B : List ℕ) → length t ≡ stateBytes → R ≡ registerBytes (s .core .regs)
+    → F ≡ frameBytes (s .core .frame) ++ bitOf (s .core .idle) ∷ [] → T ≡ bufferBytes tbfBytes (s .tbf)
+    → B ≡ bufferBytes rbfBytes (s .rbf)
+    → Keeps s (putMid 78 41 (putMid 44 34 (putMid 22 22 (R ++ drop 22 t) F) T) B)
+unfolding encode
+kept s fits t R F T B size r f l b =
+    let whole : putMid 78 41 (putMid 44 34 (putMid 22 22 (R ++ drop 22 t) F) T) B ≡ encode s
+    = put-parts t R F T B size (ap length r ∙ registers-length (s .core .regs))
+    (ap length f ∙ frame-length (s .core .frame) (bitOf (s .core .idle)))
+    (ap length l ∙ buffer-length tbfBytes (s .tbf) (fits .tbf))
+    (ap length b ∙ buffer-length rbfBytes (s .rbf) (fits .rbf))
+    ∙ rw (r, f, l, b) (simp append-assoc) in
+    record { spelled = whole; again = ap decode whole ∙ decoded s fits }

@@ -1,0 +1,193 @@
+-- What follows from the contracts of `iebus_unit_reset` and `iebus_unit_run` alone: a list that is fed in pieces, over
+-- any number of calls, is one run; and demand 3 for two such lists.
+use mathlib.Core.Path.{_≡_, refl, sym, ap, _∙_}
+use mathlib.Core.List.{List, [], _∷_, _++_, append-nil}
+use Prim.Native.Nat.{ℕ, suc, _+_, _*_, _%_, _≤_}
+use native.Mathlib.Omega.{arith}
+use mathlib.Core.Logic.{⊎-elim}
+use borrow.Author.Tests.{eq-eqb, ne-eqb}
+use lib.ListN.{length, take, drop, length-append}
+use lib.Seq.{take-at, take-length}
+use Rattle.line.proofs.Either.{same-or-not}
+use Rattle.isolation.specs.Runs.{Behind, Compared, Given, Protected, answers, run}
+use Rattle.isolation.proofs.Appended.{run-append, answers-append}
+use Rattle.unit.specs.Machine.{observed, unit}
+use Rattle.unit.specs.State.{State, reset}
+use Rattle.list_run.specs.Bytes.{byteRefusal, bytesAfter, bytesOf, bytesOfWord, wordFrom, wordsOf}
+use Rattle.list_run.proofs.Alike.{AlikeIn, answers-alike}
+use Rattle.list_run.proofs.Called.{CalledBytes, answers-length, answers-spelled}
+use Rattle.list_run.proofs.Spelled.{taken-whole}
+use Rattle.lasting.specs.Calls.{resetBytes, resetState, runAnswers, runBytes, runRefusal, runState, sizeRefusal}
+use Rattle.lasting.specs.Decode.{decode}
+use Rattle.lasting.specs.Encode.{encode}
+
+-- a call of `iebus_unit_reset` on the bytes `kept` that returns a number and leaves the bytes kept′
+pub record Reset (kept : List ℕ) (number : ℕ) (kept′ : List ℕ) : Type 0 where
+  pub ends : number ≡ sizeRefusal kept
+  pub left : kept′ ≡ resetBytes kept
+  pub again : decode kept′ ≡ resetState kept
+
+-- a call of `iebus_unit_run` on the bytes `kept` and the answer bytes `out`, and what it leaves of both
+pub record Ran (kept words out : List ℕ) (number : ℕ) (kept′ out′ : List ℕ) : Type 0 where
+  pub ends : number ≡ runRefusal kept words out
+  pub written : out′ ≡ runAnswers kept words out
+  pub left : kept′ ≡ runBytes kept words out
+  pub again : decode kept′ ≡ runState kept words out
+  pub protected : Protected unit
+
+-- calls one after the other, none refused, each on the bytes that the last one left: the words of all of them as one
+-- list, and their answers
+pub data Fed : List ℕ → List ℕ → List ℕ → List ℕ → Type 0 where
+  one : {kept words out kept′ out′ : List ℕ} → Ran kept words out 0 kept′ out′
+      → Fed kept words (take (length words) out′) kept′
+  more : {kept words out middle out′ words′ said kept′ : List ℕ} → Ran kept words out 0 middle out′
+      → Fed middle words′ said kept′ → Fed kept (words ++ words′) (take (length words) out′ ++ said) kept′
+
+-- one run of the words from the state that the bytes `kept` keep
+pub record OneRun (kept words said kept′ : List ℕ) : Type 0 where
+  pub whole : length words % 4 ≡ 0
+  pub state : decode kept′ ≡ run unit (decode kept) (wordsOf words)
+  pub bytes : kept′ ≡ encode (run unit (decode kept) (wordsOf words))
+  pub answered : said ≡ bytesOf (answers unit (decode kept) (wordsOf words))
+
+-- ---- words and bytes of lists in two parts
+
+words-append : (a b : List ℕ) → length a % 4 ≡ 0 → wordsOf (a ++ b) ≡ wordsOf a ++ wordsOf b
+unfolding wordsOf
+words-append [] b h = refl
+words-append (x ∷ []) b h = absurd (let e : ⊥ = omega arith in e)
+words-append (x ∷ y ∷ []) b h = absurd (let e : ⊥ = omega arith in e)
+words-append (x ∷ y ∷ z ∷ []) b h = absurd (let e : ⊥ = omega arith in e)
+words-append (x ∷ y ∷ z ∷ w ∷ a) b h =
+    ap (λ (l : List ℕ). wordFrom x y z w ∷ l) (words-append a b (omega arith))
+
+words-length : (l : List ℕ) → length l % 4 ≡ 0 → length (wordsOf l) * 4 ≡ length l
+unfolding wordsOf
+words-length [] h = refl
+words-length (x ∷ []) h = absurd (let e : ⊥ = omega arith in e)
+words-length (x ∷ y ∷ []) h = absurd (let e : ⊥ = omega arith in e)
+words-length (x ∷ y ∷ z ∷ []) h = absurd (let e : ⊥ = omega arith in e)
+words-length (x ∷ y ∷ z ∷ w ∷ l) h = omega (arith, words-length l (omega arith))
+
+bytes-append : (a b : List ℕ) → bytesOf (a ++ b) ≡ bytesOf a ++ bytesOf b
+unfolding bytesOf
+bytes-append [] b = refl
+bytes-append (w ∷ a) b = ap (λ (l : List ℕ). bytesOfWord w ++ l) (bytes-append a b)
+
+bytes-length : (ws : List ℕ) → length (bytesOf ws) ≡ length ws * 4
+unfolding bytesOf
+bytes-length [] = refl
+bytes-length (w ∷ ws) = omega (arith, bytes-length ws)
+
+spelled-length : (s : State) (words : List ℕ) → length words % 4 ≡ 0
+    → length (bytesOf (answers unit s (wordsOf words))) ≡ length words
+spelled-length s words h =
+    omega (
+      arith,
+      bytes-length (answers unit s (wordsOf words)),
+      answers-length s (wordsOf words),
+      words-length words h,
+    )
+
+-- ---- one call
+
+module _ {kept words out kept′ out′ : List ℕ} (call : Ran kept words out 0 kept′ out′) where
+  lists-taken : byteRefusal words out ≡ 0
+  unfolding runRefusal
+  lists-taken =
+      ⊎-elim (λ e. e) (λ n. sym (call .ends ∙ rw (ne-eqb (byteRefusal words out) 0 n)))
+      (same-or-not (byteRefusal words out) 0)
+
+  pub one-call : OneRun kept words (take (length words) out′) kept′
+  unfolding runState runBytes runAnswers
+  one-call =
+      let whole = taken-whole (length words) (length out) lists-taken .0 in
+      record {
+        whole = whole;
+        state = call .again ∙ rw (← call .ends);
+        bytes = call .left ∙ rw (← call .ends);
+        answered = rw (call .written, ← call .ends)
+            (take-at (bytesOf (answers unit (decode kept) (wordsOf words))) _ (length words)
+            (spelled-length (decode kept) words whole));
+      }
+
+-- ---- any number of calls
+
+pub as-one-run : {kept words said kept′ : List ℕ} → Fed kept words said kept′ → OneRun kept words said kept′
+as-one-run (one call) = one-call call
+as-one-run (more {kept} {words} {out} {middle} {out′} {words′} {said} {kept′} call calls) =
+    let first = one-call call in
+    let rest = as-one-run calls in
+    let s = decode kept in
+    let A = wordsOf words in
+    let B = wordsOf words′ in
+    let apart : wordsOf (words ++ words′) ≡ A ++ B = words-append words words′ (first .whole) in
+    let left : run unit (decode middle) B ≡ run unit s (wordsOf (words ++ words′))
+    = ap (λ (t : State). run unit t B) (first .state) ∙ sym (ap (run unit s) apart ∙ run-append unit s A B) in
+    record {
+      whole = omega (arith, length-append words words′, first .whole, rest .whole);
+      state = rest .state ∙ left;
+      bytes = rest .bytes ∙ ap encode left;
+      answered = rw (first .answered, rest .answered, first .state, apart, answers-append unit s A B)
+          (sym (bytes-append (answers unit s A) (answers unit (run unit s A) B)));
+    }
+
+-- what the calls leave and answer is what one call for all the words leaves and answers
+pub pieces-are-one : {kept words said kept′ out kept″ out″ : List ℕ} → Fed kept words said kept′
+    → Ran kept words out 0 kept″ out″ → (kept′ ≡ kept″) × (said ≡ take (length words) out″)
+pieces-are-one calls call =
+    let many = as-one-run calls in
+    let single = one-call call in
+    (many .bytes ∙ sym (single .bytes), many .answered ∙ sym (single .answered))
+
+-- from a reset unit the answers are those of `iebus_run`
+pub pieces-from-reset : {before kept words said kept′ out out′ : List ℕ} → Reset before 0 kept
+    → Fed kept words said kept′ → CalledBytes words out 0 out′ → said ≡ take (length words) out′
+unfolding resetState bytesAfter
+pieces-from-reset {before} {kept} {words} {said} {kept′} {out} {out′} begun calls call =
+    let many = as-one-run calls in
+    let fresh : decode kept ≡ reset = begun .again ∙ rw (← begun .ends) in
+    many .answered ∙ rw fresh
+    (sym (rw (call .written, ← call .ends)
+    (take-at (bytesOf (answers unit reset (wordsOf words))) _ (length words)
+    (spelled-length reset words (many .whole)))))
+
+-- ---- demand 3
+
+fed-protected : {kept words said kept′ : List ℕ} → Fed kept words said kept′ → Protected unit
+fed-protected (one call) = call .protected
+fed-protected (more call calls) = call .protected
+
+-- the words that the answer bytes spell
+words-again : (s : State) (ws : List ℕ) → wordsOf (bytesOf (answers unit s ws)) ≡ answers unit s ws ++ []
+unfolding wordsOf
+words-again s ws = ap wordsOf (sym (append-nil (bytesOf (answers unit s ws)))) ∙ answers-spelled s ws []
+
+answers-fed : {kept words said kept′ : List ℕ} → Fed kept words said kept′
+    → take (length (wordsOf words)) (wordsOf said) ≡ answers unit (decode kept) (wordsOf words)
+answers-fed {kept} {words} calls =
+    let s = decode kept in
+    let many = as-one-run calls in
+    rw (many .answered, words-again s (wordsOf words))
+    (take-at (answers unit s (wordsOf words)) [] (length (wordsOf words)) (answers-length s (wordsOf words)))
+
+module _ {h : ℕ} {kept : List ℕ} {A B : List ℕ} (given : Given unit h (decode kept) A B) where
+  -- two lists, each fed in pieces of its own, from one state
+  pub feeds-alike : {words words′ said said′ kept′ kept″ : List ℕ} → wordsOf words ≡ A → wordsOf words′ ≡ B
+      → Fed kept words said kept′ → Fed kept words′ said′ kept″
+      → AlikeIn h (decode kept) A B (wordsOf said) (wordsOf said′)
+  feeds-alike e e′ first second =
+      answers-alike (fed-protected first) h (decode kept) A B _ _ given (rw e at (answers-fed first))
+      (rw e′ at (answers-fed second))
+
+  -- the states that are kept after i words of the one list and j of the other
+  pub kept-alike : {words words′ said said′ kept′ kept″ : List ℕ} (i j : ℕ)
+      → wordsOf words ≡ take i A → wordsOf words′ ≡ take j B
+      → Fed kept words said kept′ → Fed kept words′ said′ kept″ → Behind h A B i j
+      → Compared unit h (decode kept) A i → Compared unit h (decode kept) B j
+      → observed (decode kept′) ≡ observed (decode kept″)
+  unfolding Protected
+  kept-alike i j e e′ first second behind c c′ =
+      ap observed (as-one-run first .state ∙ ap (run unit (decode kept)) e)
+      ∙ fed-protected first h (decode kept) A B given .states i j behind c c′
+      ∙ sym (ap observed (as-one-run second .state ∙ ap (run unit (decode kept)) e′))

@@ -1,0 +1,21 @@
+use borrow.Author.Needs.{needs}
+use borrow.Author.Tests.{eq-eqb, ne-eqb}
+use mathlib.Core.Path.{ap, _∙_}
+use Rattle.lasting.specs.Calls.{resetBytes, resetState, sizeRefusal}
+use Rattle.lasting.specs.Encode.{encode}
+use Rattle.lasting.proofs.calls.iebus_unit_reset.Statement.{statement}
+use Rattle.lasting.proofs.calls.iebus_unit_reset.Tie as tie
+
+pub iebus-unit-reset-spec : {M : Type 1} → statement M
+unfolding sizeRefusal resetBytes resetState
+iebus-unit-reset-spec =
+    tie.close
+    (tie.spec
+    (λ c. let wrong = ne-eqb _ _ (c .if1 .taken) in (simp wrong, (simp wrong, simp wrong)))
+    (λ c κs. search needs)
+    (λ c κs. search needs)
+    (λ c. search needs)
+    (λ c. let right = eq-eqb _ _ (c .before .before .before .before .before .if1 .left) in
+    let keeps = c .before .before .put-unit .ensures in
+    let fresh = c .before .before .before .reset .ensures in
+    (simp right, (keeps .spelled ∙ ap encode fresh ∙ simp right, keeps .again ∙ fresh ∙ simp right))))

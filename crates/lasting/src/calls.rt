@@ -1,0 +1,58 @@
+// The calls of a host in C that keeps a unit: "A list may go over any number of list runs, each from the state that
+// the last one left."
+ghost use mathlib.Core.Path.{_≡_};
+ghost use Rattle.isolation.specs.Runs.{Protected};
+ghost use Rattle.unit.specs.Machine.{unit};
+ghost use Rattle.lasting.specs.Calls.{resetBytes, resetState, runAnswers, runBytes, runRefusal, runState};
+ghost use Rattle.lasting.specs.Calls.{sizeRefusal};
+ghost use Rattle.lasting.specs.Decode.{decode};
+use crate::layout::STATE_BYTES;
+use crate::whole::put_unit;
+use crate::whole::unit_from;
+use list_run::bytes::byte_refusal;
+use list_run::bytes::run_bytes;
+use unit::step::Unit;
+
+// The bytes given for a state are not as many as keep one. No number of document 01.
+const REFUSED_STATE_SIZE: u32 = 100;
+
+// A reset unit in `state`: 0, or 100 where `state` has not the size of a state; then nothing is written.
+#[no_mangle]
+pub extern "C" fn iebus_unit_reset(state: &mut [u8]) -> u32
+    ensures { λ r. ⌜ r ≡ sizeRefusal (now (state .entry)) ⌝ }
+    ensures { λ _. ⌜ now (state .exit) ≡ resetBytes (now (state .entry)) ⌝ }
+    ensures { λ _. ⌜ decode (now (state .exit)) ≡ resetState (now (state .entry)) ⌝ }
+{
+    if state.len() != STATE_BYTES {
+        return REFUSED_STATE_SIZE;
+    }
+    put_unit(state, Unit::reset());
+    0
+}
+
+// The words run from the unit that `state` keeps, which then keeps the unit that is left. The answer to the word at
+// byte at stands at byte at of `answers`; bytes past the last answer keep their contents. 0, or 11 where the bytes are
+// no whole words, or 12 where `answers` is shorter than `words`, or 100 where `state` has not the size of a state; then
+// nothing is run and nothing written.
+#[no_mangle]
+pub extern "C" fn iebus_unit_run(state: &mut [u8], words: &[u8], answers: &mut [u8]) -> u32
+    ensures { λ r. ⌜ r ≡ runRefusal (now (state .entry)) (now (words .entry)) (now (answers .entry)) ⌝ }
+    ensures { λ _. ⌜ now (answers .exit)
+        ≡ runAnswers (now (state .entry)) (now (words .entry)) (now (answers .entry)) ⌝ }
+    ensures { λ _. ⌜ now (state .exit) ≡ runBytes (now (state .entry)) (now (words .entry)) (now (answers .entry)) ⌝ }
+    ensures { λ _. ⌜ decode (now (state .exit))
+        ≡ runState (now (state .entry)) (now (words .entry)) (now (answers .entry)) ⌝ }
+    ensures { λ _. ⌜ Protected unit ⌝ }
+{
+    // "The lowest number wins": the lists come before the size.
+    let number = byte_refusal(words.len(), answers.len());
+    if number != 0 {
+        return number;
+    }
+    if state.len() != STATE_BYTES {
+        return REFUSED_STATE_SIZE;
+    }
+    let ran = run_bytes(unit_from(state), words, answers);
+    put_unit(state, ran.unit);
+    0
+}
