@@ -2,6 +2,7 @@
 
    reach [seed N] [words N] [all]
 
+   The lists are those that `compare list 400000` runs for the same seed, so that what is counted is what was compared.
    Prints one line for each group, with `all` one for each item too. Exit status 0 only where everything that the rules
    allow was reached and nothing that they forbid was seen. */
 #include <inttypes.h>
@@ -85,7 +86,7 @@ int main(int argc, char **argv)
     }
     struct traffic t;
     for (uint64_t done = 0; done < total; done += LIST_WORDS) {
-        traffic_make(&t, seed * 1000003 + done, words, answers, LIST_WORDS);
+        traffic_make(&t, seed * 1000003 + done / LIST_WORDS, words, answers, LIST_WORDS);
         observe_list(words, LIST_WORDS);
     }
     for (size_t g = 0; g < GROUPS; g++)

@@ -81,5 +81,6 @@ int main(void)
     known_cases();
     scenes();
     striking();
+    life();
     return cases_failed > 0;
 }

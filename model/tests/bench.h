@@ -30,5 +30,6 @@ bool call_unit(struct unit *u, unsigned master, unsigned slave, unsigned control
 void known_cases(void);
 void scenes(void);
 void striking(void);
+void life(void);
 
 #endif

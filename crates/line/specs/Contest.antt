@@ -165,3 +165,23 @@ pub record Wins (cs : List Contender) (place : ℕ) : Type 0 where
 -- where a contest has a winner, it is the least of all and alone
 abbrev pub WonRightly : List Contender → Outcome → Type 0
 WonRightly cs r = verdictOf r .number ≡ 0 → Wins cs (verdictOf r .place)
+
+-- ---- For a host in C, which gets one number and no enum
+
+-- a number of two halves holds a verdict: the refusal's number above, the place below
+abbrev pub wordHalf : ℕ
+wordHalf = 65536
+
+abbrev pub verdictWord : Verdict → ℕ
+verdictWord v = v .number * wordHalf + v .place
+
+-- the whole outcome of a contest, told by a number. A place that is named is one of at most 50, so it fits its half
+pub record ContestedWord (cs : List Contender) (numbers : List ℕ) (word : ℕ) (after : List ℕ) : Type 0 where
+  pub outcome : Outcome
+  pub contested : Contested cs numbers outcome after
+  pub told : word ≡ verdictWord (verdictOf outcome)
+  pub fits : verdictOf outcome .place < mostContenders
+
+-- a number with nothing in its upper half is the winner's place
+abbrev pub WonByWord : List Contender → ℕ → Type 0
+WonByWord cs word = word < wordHalf → Wins cs word

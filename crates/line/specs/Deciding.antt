@@ -8,9 +8,10 @@ use lib.Dec.{eqb}
 use lib.ListN.{length, drop, getD}
 use Rattle.line.specs.Choice.{pick}
 use Rattle.line.specs.Parity.{levelOf}
-use Rattle.line.specs.Numbers.{contestSlots, lastContestSlot}
-use Rattle.line.specs.Contest.{nobody, firstOut, firstTwin, numberOf}
+use Rattle.line.specs.Numbers.{contestSlots, lastContestSlot, mostContenders}
+use Rattle.line.specs.Contest.{nobody, firstOf, firstOut, firstTwin, numberOf, withContender}
 use Rattle.line.specs.declared.contest.Contender.{Contender}
+use Rattle.line.specs.declared.contest.Contenders.{Contenders}
 
 -- the first of the last n slots in which x and w differ, 0 where they differ in none
 unfoldable pub differs : ℕ → ℕ → ℕ → ℕ
@@ -34,3 +35,11 @@ differences w cs = map (λ (c : Contender). differs contestSlots w (numberOf c))
 -- the number list with those slots at the contenders' places, and the rest as before
 abbrev pub Losses : ℕ → List Contender → List ℕ → List ℕ → Type 0
 Losses w cs numbers after = after ≡ differences w cs ++ drop (length cs) numbers
+
+-- a value with the record at a place of a list given
+abbrev pub withRecord : Contenders → List Contender → ℕ → Contenders
+withRecord all cs place = withContender all place (getD cs place nobody .bit) (getD cs place nobody .address)
+
+-- as many contenders as a list has records, and the first 50 of them
+abbrev pub gatheredOf : List Contender → Contenders
+gatheredOf cs = record { count = length cs; list = firstOf mostContenders cs }

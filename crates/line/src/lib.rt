@@ -3,4 +3,5 @@
 pub mod contest;
 pub mod numbers;
 pub mod parity;
+pub mod records;
 pub mod slot;

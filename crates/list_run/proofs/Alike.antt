@@ -3,7 +3,7 @@
 use mathlib.Core.Bool.{Bool, true, false, false≢true}
 use mathlib.Core.Path.{_≡_, refl, sym, ap, _∙_}
 use mathlib.Core.List.{List, [], _∷_, _++_, map}
-use Prim.Native.Nat.{ℕ, zero, suc, _≤_, _<_}
+use Prim.Native.Nat.{ℕ, zero, suc, _<_}
 use native.Mathlib.Omega.{arith}
 use lib.ListN.{length, take, drop, getD, length-map}
 use lib.Seq.{getD-take, take-take}
@@ -11,7 +11,7 @@ use Rattle.line.specs.Numbers.{driveReleased}
 use Rattle.line.specs.Slot.{Class, slot, host, classOf}
 use Rattle.line.specs.declared.slot.Slot.the-variants.{Level, Start, Idle, Stray}
 use Rattle.isolation.specs.Words.{framed, keeps, marks}
-use Rattle.isolation.specs.Runs.{Alike, Behind, Compared, Given, Places, Protected, answers, driven, run, shown}
+use Rattle.isolation.specs.Runs.{Behind, Compared, Given, Places, Protected, answers, driven, run, shown}
 use Rattle.unit.specs.Machine.{observed, unit}
 use Rattle.unit.specs.State.{State, reset}
 use Rattle.list_run.specs.Bytes.{wordsOf}

@@ -1,11 +1,11 @@
 -- The run over bytes that is under way: words that bytes spell, and answers written four bytes at a time.
-use mathlib.Core.Path.{_≡_, refl, sym, ap, _∙_}
+use mathlib.Core.Path.{_≡_, refl, ap, _∙_}
 use mathlib.Core.List.{List, [], _∷_, _++_}
-use Prim.Native.Nat.{ℕ, zero, suc, _+_, _-_, _%_, _≤_, _<_}
+use Prim.Native.Nat.{ℕ, _+_, _-_, _%_, _≤_, _<_}
 use native.Mathlib.Omega.{arith}
-use lib.ListN.{length, drop, getD, set, length-set, drop-of-length-le}
+use lib.ListN.{length, drop, getD, drop-of-length-le}
 use Rattle.line.proofs.Filled.{Filled, nothing-filled, one-filled, all-filled}
-use Rattle.isolation.specs.Runs.{run, answers}
+use Rattle.isolation.specs.Runs.{answers}
 use Rattle.unit.specs.Both.{Runs, stateIn}
 use Rattle.unit.specs.Machine.{unit}
 use Rattle.unit.specs.State.{State}

@@ -17,6 +17,7 @@ use unit::step::Lent;
 // How many bytes spell a word.
 const WORD_BYTES: usize = 4;
 
+// A byte as a number of 32 bits. The sums below ask for its bound.
 fn wide(byte: u8) -> u32
     ensures { λ r. ⌜ (r ≡ byte) × (r < 256) ⌝ }
 {
@@ -45,9 +46,9 @@ fn put_word(bytes: &mut [u8], at: usize, word: u32)
     bytes[at + 3] = (word / 0x100_0000 % 256) as u8;
 }
 
-// The words run from a reset unit. The answer to the word at byte at stands at byte at of `answers`; bytes past the
-// last answer keep their contents. 0, or 11 where the bytes are no whole words, or 12 where `answers` is shorter than
-// `words`; then nothing is written.
+// The words run from a reset unit. The answer to a word stands in `answers` at the word's own place; bytes past the
+// last answer keep their contents. The result is 0; or 11 where the bytes are no whole words, or 12 where `answers` is
+// shorter than `words`, and then nothing is written. The holder of the lock is protected as it is in `run`.
 #[no_mangle]
 pub extern "C" fn iebus_run(words: &[u8], answers: &mut [u8]) -> u32
     ensures { λ r. ⌜ r ≡ byteRefusal (now (words .entry)) (now (answers .entry)) ⌝ }
