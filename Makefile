@@ -1,6 +1,6 @@
 # What a host in C links: `make` builds target/libiebus.a, `make install PREFIX=..` puts header, library and iebus.pc in
 # place, `make example` builds the example host and `make run` runs it. The toolchain's `rt` is needed where an archive
-# of proved code is older than the crates that it is made of; it proves them once more and then compiles them.
+# of proved code is missing or older than the crates (tests/archive).
 VERSION = 1
 PREFIX ?= /usr/local
 CC = gcc
@@ -14,7 +14,6 @@ EXAMPLE = $(OUT)/host/bench
 
 # an archive has the exported functions of one crate; everything else in it is local
 ARCHIVES = $(patsubst %,$(OUT)/staticlib/lib%.a,line list_run lasting)
-files = crates.txt $(shell find $(addprefix crates/,$(1)) -type f -not -path '*/must-fail/*' 2>/dev/null)
 HOST = $(patsubst host/%.c,$(OUT)/host/%.o,$(wildcard host/*.c))
 
 all: $(LIBRARY)
@@ -22,12 +21,9 @@ all: $(LIBRARY)
 # two runs of `rt` would meet in target/
 .NOTPARALLEL:
 
-$(OUT)/staticlib/libline.a: $(call files,line)
-$(OUT)/staticlib/liblist_run.a: $(call files,line frame isolation unit list_run)
-$(OUT)/staticlib/liblasting.a: $(call files,line frame isolation unit list_run lasting)
-$(ARCHIVES): $(OUT)/staticlib/lib%.a:
-	rt staticlib $*
-	@touch $@
+# asked every time, because tests/archive knows best whether there is something to do
+$(ARCHIVES): $(OUT)/staticlib/lib%.a: always
+	@tests/archive $*
 
 $(LIBRARY): $(ARCHIVES)
 	@rm -f $@
@@ -55,4 +51,4 @@ $(OUT)/host/%.o: host/%.c $(wildcard host/*.h) include/iebus.h
 clean:
 	rm -rf $(LIBRARY) $(OUT)/host
 
-.PHONY: all install example run clean
+.PHONY: all install example run clean always
