@@ -9,7 +9,18 @@
 
    - no pointer is null, also where its length is 0;
    - no two areas that are lent to one call overlap, a list of words and its answers among them;
-   - nobody else reads or writes a lent area while the call lasts. */
+   - nobody else reads or writes a lent area while the call lasts.
+
+   One slot of the line, here an idle one, and what the unit drives in the next:
+
+       uint8_t state[IEBUS_STATE_BYTES], in[4], out[4];
+       iebus_unit_reset(state, sizeof state);
+       iebus_put_word(in, IEBUS_SLOT(IEBUS_SLOT_IDLE));
+       iebus_unit_run(state, sizeof state, in, sizeof in, out, sizeof out);
+       drive = IEBUS_DRIVE(iebus_get_word(out));
+
+   A whole host is in host/. The contracts are in crates/lasting/src/calls.rt, crates/list_run/src/bytes.rt and
+   crates/line/src/records.rt. */
 #ifndef IEBUS_H
 #define IEBUS_H
 
