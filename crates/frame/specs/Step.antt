@@ -1,6 +1,6 @@
--- One level of a frame: the bit is taken in, a judgement is made at P, and A decides how the frame goes on. "A judgement
--- is made with the P slot's word, from the state then, and later host words do not change it." "What an ACK brings,
--- stored bytes included, comes with the A slot's word. A field begins with the word of the slot before it."
+-- One level of a frame: the bit is taken in, a judgement is made at P, and A decides how the frame goes on. "A
+-- judgement is made with the P slot's word, from the state then, and later host words do not change it." "What an ACK
+-- brings, stored bytes included, comes with the A slot's word. A field begins with the word of the slot before it."
 use Prim.Native.Nat.{ℕ, _+_, _%_}
 use mathlib.Core.Bool.{Bool, true, false, not, _&&_, _||_, Bool·beq}
 use lib.Dec.{eqb, ltb, leb}

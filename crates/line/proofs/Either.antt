@@ -1,10 +1,10 @@
 -- The two ways of a test.
-use mathlib.Core.Bool.{Bool, true, false}
+use mathlib.Core.Bool.{Bool, true, false, _&&_}
 use mathlib.Core.Logic.{_⊎_, inl, inr, ⊎-elim}
 use mathlib.Core.Path.{_≡_, refl, sym, subst, _∙_}
 use Prim.Native.Nat.{ℕ, _<_, _≤_}
 use borrow.Author.Tests.{eq-eqb, ne-eqb, eqb-true, eqb-false, ltb-true, ltb-false}
-use lib.Dec.{eqb, ltb}
+use lib.Dec.{T, eqb, ltb}
 
 pub either : (b : Bool) → (b ≡ true) ⊎ (b ≡ false)
 either true = inl refl
@@ -21,6 +21,10 @@ pub eqb-alike : (a b c d : ℕ) → (a ≡ b → c ≡ d) → (c ≡ d → a ≡
 eqb-alike a b c d f g =
     ⊎-elim (λ e. eq-eqb a b e ∙ sym (eq-eqb c d (f e))) (λ n. ne-eqb a b n ∙ sym (ne-eqb c d (λ e. n (g e))))
     (same-or-not a b)
+
+pub both : (a b : Bool) → (a && b) ≡ true → (a ≡ true) × (b ≡ true)
+both true b e = (refl, e)
+both false b e = absurd (subst T (sym e) tt)
 
 -- what holds at k and, elsewhere, at n holds at n
 pub by-value : (P : ℕ → Type 0) (n k : ℕ) → P k → (eqb n k ≡ false → P n) → P n

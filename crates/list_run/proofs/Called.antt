@@ -44,7 +44,7 @@ module _ {s t : State} {words before after : List ℕ} (call : Called s words be
 -- a call of `iebus_run` that returns a number and leaves the answer bytes `after`
 pub record CalledBytes (words before : List ℕ) (number : ℕ) (after : List ℕ) : Type 0 where
   pub ends : number ≡ byteRefusal words before
-  pub written : after ≡ bytesAfter words before
+  pub written : after ≡ bytesAfter reset words before
   pub protected : Protected unit
 
 -- an answer has 32 bits, and its four bytes spell it again
@@ -66,7 +66,7 @@ spelled-again w l =
     let lowest : w % 256 + w / 0x100 * 256 ≡ w = omega arith in
     omega (arith, top, high, low, lowest)
 
-answers-spelled : (s : State) (ws rest : List ℕ)
+pub answers-spelled : (s : State) (ws rest : List ℕ)
     → wordsOf (bytesOf (answers unit s ws) ++ rest) ≡ answers unit s ws ++ wordsOf rest
 unfolding answers bytesOf wordsOf
 answers-spelled s [] rest = refl

@@ -1,9 +1,18 @@
 -- The run over bytes that is under way: words that bytes spell, and answers written four bytes at a time.
 use mathlib.Core.Path.{_≡_, refl, ap, _∙_}
 use mathlib.Core.List.{List, [], _∷_, _++_}
+<<<<<<< HEAD
 use Prim.Native.Nat.{ℕ, _+_, _-_, _%_, _≤_, _<_}
 use native.Mathlib.Omega.{arith}
 use lib.ListN.{length, drop, getD, drop-of-length-le}
+=======
+use mathlib.Core.Logic.{⊎-elim}
+use Prim.Native.Nat.{ℕ, zero, suc, _+_, _-_, _%_, _≤_, _<_}
+use native.Mathlib.Omega.{arith}
+use borrow.Author.Tests.{lt-ltb, eq-eqb, ne-eqb}
+use lib.ListN.{length, drop, getD, set, length-set, drop-of-length-le}
+use Rattle.line.proofs.Either.{below-or-not, same-or-not}
+>>>>>>> fb38a76
 use Rattle.line.proofs.Filled.{Filled, nothing-filled, one-filled, all-filled}
 use Rattle.isolation.specs.Runs.{answers}
 use Rattle.unit.specs.Both.{Runs, stateIn}
@@ -13,8 +22,9 @@ use Rattle.unit.specs.Step.{stepOf, answerOf, wordOf}
 use Rattle.unit.specs.declared.step.Answered.{Answered}
 use Rattle.unit.specs.declared.step.Lent.{Lent}
 use Rattle.list_run.specs.Run.{Whole}
-use Rattle.list_run.specs.Bytes.{wordsOf, wordAt, wordPut, bytesOf, bytesOfWord}
-use Rattle.list_run.proofs.Underway.{cut, answers-cons, answers-nil, whole-after}
+use Rattle.list_run.specs.Bytes.{byteRefusal, bytesAfter, bytesOf, bytesOfWord, countRefusal}
+use Rattle.list_run.specs.Bytes.{wordAt, wordPut, wordsOf}
+use Rattle.list_run.proofs.Underway.{cut, run-cons, run-nil, answers-cons, answers-nil, whole-after}
 
 -- the words from a place on: the word there, and those from four bytes further on
 words-cut : (s : List ℕ) (at : ℕ) → at + 4 ≤ length s → wordsOf (drop at s) ≡ wordAt s at ∷ wordsOf (drop (at + 4) s)
@@ -52,35 +62,62 @@ word-filled {whole} {first} {now} {rest} {at} w f room =
     let c = rw three at (one-filled _ b (omega (arith, b .long))) in
     rw four at (one-filled _ c (omega (arith, c .long)))
 
+-- what a run that is not refused is given
+pub taken-whole : (words out : ℕ) → countRefusal words out ≡ 0 → (words % 4 ≡ 0) × (words ≤ out)
+unfolding countRefusal
+taken-whole words out e =
+    ⊎-elim
+    (λ even.
+    ⊎-elim
+    (λ short. absurd (let b : ⊥ = omega (arith, simp (eq-eqb _ _ even, lt-ltb _ _ short) at e) in b))
+    (λ room. (even, room)) (below-or-not out words))
+    (λ odd. absurd (let b : ⊥ = omega (arith, simp (ne-eqb _ _ odd) at e) in b))
+    (same-or-not (words % 4) 0)
+
 -- after the words in the first `at` bytes: the state is s, the answer bytes are `now`
 pub record Spelled (s₀ : State) (words first : List ℕ) (s : State) (now : List ℕ) (at : ℕ) : Type 0 where
+  pub states : run unit s₀ (wordsOf words) ≡ run unit s (wordsOf (drop at words))
   pub filled : Filled (bytesOf (answers unit s₀ (wordsOf words))) first now
       (bytesOf (answers unit s (wordsOf (drop at words)))) at
   pub within : at ≤ length words
   pub whole : (length words - at) % 4 ≡ 0
+  pub room : length words ≤ length first
 
-pub none-spelled : (s₀ : State) (words first : List ℕ) → length words % 4 ≡ 0 → Spelled s₀ words first s₀ first 0
-none-spelled s₀ words first h = record { filled = nothing-filled _ _; within = omega arith; whole = omega arith }
+pub none-spelled : (s₀ : State) (words first : List ℕ) → byteRefusal words first ≡ 0
+    → Spelled s₀ words first s₀ first 0
+none-spelled s₀ words first e =
+    let taken = taken-whole (length words) (length first) e in
+    record {
+      states = refl;
+      filled = nothing-filled _ _;
+      within = omega arith;
+      whole = omega (arith, taken .0);
+      room = taken .1;
+    }
 
 pub one-spelled : {s₀ s : State} {words first now : List ℕ} {at : ℕ} → Spelled s₀ words first s now at
-    → at < length words → length words ≤ length first
+    → at < length words
     → (s′ : State) → s′ ≡ stepOf s (wordAt words at) → (v : ℕ) → v ≡ wordOf (answerOf s (wordAt words at))
     → Spelled s₀ words first s′ (wordPut now at v) (at + 4)
-one-spelled {s₀} {s} {words} {first} {now} {at} d h room s′ e v ev =
+one-spelled {s₀} {s} {words} {first} {now} {at} d h s′ e v ev =
     let inside : at + 4 ≤ length words = omega (arith, d .whole) in
     record {
+      states = d .states ∙ rw (words-cut words at inside, run-cons, ← e);
       filled = word-filled v (rw (words-cut words at inside, answers-cons, ← e, ← ev, bytes-cons) at (d .filled))
-          (omega arith);
+          (omega (arith, d .room));
       within = inside;
       whole = omega (arith, d .whole);
+      room = d .room;
     }
 
 pub all-spelled : {s₀ s : State} {words first now : List ℕ} {at : ℕ} → Spelled s₀ words first s now at
     → length words ≤ at
-    → now ≡ bytesOf (answers unit s₀ (wordsOf words)) ++ drop (length words) first
+    → (s ≡ run unit s₀ (wordsOf words)) × (now ≡ bytesOf (answers unit s₀ (wordsOf words)) ++ drop (length words) first)
 all-spelled {s₀} {s} {words} {first} {now} {at} d h =
-    let all : at ≡ length words = omega (arith, d .within) in
-    rw (← all) (all-filled (rw (drop-of-length-le words h, words-nil, answers-nil, bytes-nil) at (d .filled)))
+    let all : at ≡ length words = omega (arith, d .within) in (
+      sym (d .states ∙ rw (drop-of-length-le words h, words-nil, run-nil)),
+      rw (← all) (all-filled (rw (drop-of-length-le words h, words-nil, answers-nil, bytes-nil) at (d .filled))),
+    )
 
 -- ---- the same by a unit whose buffers are lent
 
@@ -88,11 +125,15 @@ abbrev pub SpelledIn : State → List ℕ → List ℕ → Lent → List ℕ →
 SpelledIn s₀ words first u t r now at = Spelled s₀ words first (stateIn u t r) now at × Whole t r
 
 pub one-spelled-in : {s₀ : State} {words first now t t' r r' : List ℕ} {at w : ℕ} {u : Lent} {a : Answered}
-    → SpelledIn s₀ words first u t r now at → at < length words → length words ≤ length first
-    → w ≡ wordAt words at → Runs u w t t' r r' a → (v : ℕ) → v ≡ wordOf (a .answer)
+    → SpelledIn s₀ words first u t r now at → at < length words → w ≡ wordAt words at → Runs u w t t' r r' a
+    → (v : ℕ) → v ≡ wordOf (a .answer)
     → SpelledIn s₀ words first (a .lent) t' r' (wordPut now at v) (at + 4)
-one-spelled-in {u = u} {a = a} (d, whole) h room word ran v e = (
-  one-spelled d h room _ (ran .state (whole .0) (whole .1) ∙ ap (stepOf _) word) v
+one-spelled-in {u = u} {a = a} (d, whole) h word ran v e = (
+  one-spelled d h _ (ran .state (whole .0) (whole .1) ∙ ap (stepOf _) word) v
       (e ∙ ap wordOf (ran .answer (whole .0) (whole .1) ∙ ap (answerOf _) word)),
   whole-after whole ran,
 )
+
+-- the answer bytes of runs from one state
+pub same-answers : (s s′ : State) (words out : List ℕ) → s ≡ s′ → bytesAfter s words out ≡ bytesAfter s′ words out
+same-answers s s′ words out e = ap (λ (x : State). bytesAfter x words out) e

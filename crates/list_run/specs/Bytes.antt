@@ -1,14 +1,17 @@
 -- Document 01, "Words": "The same run from a reset unit is exported to the bench host, written in C, over byte slices,
 -- each word little-endian; it returns 0 or a refusal."
 use mathlib.Core.List.{List, [], _∷_, _++_}
+use mathlib.Core.Path.{_≡_}
 use Prim.Native.Nat.{ℕ, _+_, _*_, _/_, _%_}
 use lib.Dec.{eqb, ltb}
 use lib.ListN.{length, drop, getD, set}
 use Rattle.line.specs.Choice.{pick}
 use Rattle.line.specs.Numbers.{refusedByteCount, refusedShortList}
-use Rattle.isolation.specs.Runs.{answers}
+use Rattle.isolation.specs.Runs.{run, answers}
+use Rattle.unit.specs.Both.{stateIn}
 use Rattle.unit.specs.Machine.{unit}
-use Rattle.unit.specs.State.{reset}
+use Rattle.unit.specs.State.{State}
+use Rattle.unit.specs.declared.step.Lent.{Lent}
 
 -- a word from its bytes, the lowest first
 abbrev pub wordFrom : ℕ → ℕ → ℕ → ℕ → ℕ
@@ -39,12 +42,27 @@ wordPut s at w =
     set (set (set (set s at (w % 256)) (at + 1) (w / 0x100 % 256)) (at + 2) (w / 0x1_0000 % 256)) (at + 3)
     (w / 0x100_0000 % 256)
 
--- 11: "count not a multiple of 4"; 12: "answer .. list shorter than its input"; else 0
-unfoldable pub byteRefusal : List ℕ → List ℕ → ℕ
-byteRefusal words out =
-    pick (eqb (length words % 4) 0) (pick (ltb (length out) (length words)) refusedShortList 0) refusedByteCount
+-- 11: "count not a multiple of 4"; 12: "answer .. list shorter than its input"; else 0. It rests on the two counts of
+-- bytes alone
+unfoldable pub countRefusal : ℕ → ℕ → ℕ
+countRefusal words out = pick (eqb (words % 4) 0) (pick (ltb out words) refusedShortList 0) refusedByteCount
 
--- the answer bytes afterwards
-unfoldable pub bytesAfter : List ℕ → List ℕ → List ℕ
-bytesAfter words out =
-    pick (eqb (byteRefusal words out) 0) (bytesOf (answers unit reset (wordsOf words)) ++ drop (length words) out) out
+abbrev pub byteRefusal : List ℕ → List ℕ → ℕ
+byteRefusal words out = countRefusal (length words) (length out)
+
+-- the unit afterwards; a run that is refused leaves it as it was
+unfoldable pub stateAfter : State → List ℕ → List ℕ → State
+stateAfter s words out = pick (eqb (byteRefusal words out) 0) (run unit s (wordsOf words)) s
+
+-- the answer bytes afterwards; "11 and above write nothing"
+unfoldable pub bytesAfter : State → List ℕ → List ℕ → List ℕ
+bytesAfter s words out =
+    pick (eqb (byteRefusal words out) 0) (bytesOf (answers unit s (wordsOf words)) ++ drop (length words) out) out
+
+-- ---- a unit whose buffers are lent
+
+-- what a run of it promises where the bytes are whole words, with room for the answers; a name with a dash is what is
+-- left afterwards
+pub record RunsSpelled (u : Lent) (words out out' t t' r r' : List ℕ) (u' : Lent) : Type 0 where
+  pub state : stateIn u' t' r' ≡ run unit (stateIn u t r) (wordsOf words)
+  pub written : out' ≡ bytesOf (answers unit (stateIn u t r) (wordsOf words)) ++ drop (length words) out

@@ -4,8 +4,13 @@ ghost use mathlib.Core.Path.{_≡_};
 ghost use Prim.Native.Nat.{_+_, _<_, _≤_};
 ghost use lib.ListN.{length};
 ghost use Rattle.isolation.specs.Runs.{Protected};
+ghost use Rattle.unit.specs.Both.{stateOf};
 ghost use Rattle.unit.specs.Machine.{unit};
-ghost use Rattle.list_run.specs.Bytes.{byteRefusal, bytesAfter, wordAt, wordPut};
+ghost use Rattle.unit.specs.State.{reset};
+ghost use Rattle.list_run.specs.Bytes.{RunsSpelled, byteRefusal, bytesAfter, countRefusal, stateAfter};
+ghost use Rattle.list_run.specs.Bytes.{wordAt, wordPut};
+ghost use Rattle.list_run.specs.Run.{Whole};
+use crate::run::unit_of;
 use line::numbers::RBF_BYTES;
 use line::numbers::REFUSED_BYTE_COUNT;
 use line::numbers::REFUSED_SHORT_LIST;
@@ -13,11 +18,17 @@ use line::numbers::TBF_BYTES;
 use unit::answer::Answer;
 use unit::answer::answer_word;
 use unit::step::Lent;
+use unit::step::Unit;
 
 // How many bytes spell a word.
 const WORD_BYTES: usize = 4;
 
-// A byte as a number of 32 bits. The sums below ask for its bound.
+// A unit after a run over bytes, and the number of the refusal, or 0.
+pub struct RanBytes {
+    pub unit: Unit,
+    pub number: u32,
+}
+
 fn wide(byte: u8) -> u32
     ensures { λ r. ⌜ (r ≡ byte) × (r < 256) ⌝ }
 {
@@ -46,28 +57,36 @@ fn put_word(bytes: &mut [u8], at: usize, word: u32)
     bytes[at + 3] = (word / 0x100_0000 % 256) as u8;
 }
 
-// The words run from a reset unit. The answer to a word stands in `answers` at the word's own place; bytes past the
-// last answer keep their contents. The result is 0; or 11 where the bytes are no whole words, or 12 where `answers` is
-// shorter than `words`, and then nothing is written. The holder of the lock is protected as it is in `run`.
-#[no_mangle]
-pub extern "C" fn iebus_run(words: &[u8], answers: &mut [u8]) -> u32
-    ensures { λ r. ⌜ r ≡ byteRefusal (now (words .entry)) (now (answers .entry)) ⌝ }
-    ensures { λ _. ⌜ now (answers .exit) ≡ bytesAfter (now (words .entry)) (now (answers .entry)) ⌝ }
-    ensures { λ _. ⌜ Protected unit ⌝ }
+// With which number a run over so many bytes of words, and so many for answers, is refused; 0 where it is not.
+pub fn byte_refusal(words: usize, answers: usize) -> u32
+    ensures { λ r. ⌜ r ≡ countRefusal words answers ⌝ }
 {
     // "The lowest number wins": the count comes before the answer list.
-    if words.len() % WORD_BYTES != 0 {
+    if words % WORD_BYTES != 0 {
         return REFUSED_BYTE_COUNT as u32;
     }
-    if answers.len() < words.len() {
+    if answers < words {
         return REFUSED_SHORT_LIST as u32;
     }
-    let mut lent = Lent::reset();
-    let mut tbf = [0u8; TBF_BYTES];
-    let mut rbf = [0u8; RBF_BYTES];
+    0
+}
+
+// The words that bytes spell, run in order by a unit whose buffers are lent; what stands past the last answer is kept.
+fn run_spelled(
+    mut lent: Lent,
+    words: &[u8],
+    answers: &mut [u8],
+    tbf: &mut [u8; TBF_BYTES],
+    rbf: &mut [u8; RBF_BYTES],
+) -> Lent
+    requires taken { ⌜ byteRefusal (now words) (now answers) ≡ 0 ⌝ }
+    requires whole { ⌜ Whole (now tbf) (now rbf) ⌝ }
+    ensures { λ r. ⌜ RunsSpelled lent (now (words .entry)) (now (answers .entry)) (now (answers .exit))
+        (now (tbf .entry)) (now (tbf .exit)) (now (rbf .entry)) (now (rbf .exit)) r ⌝ }
+{
     let mut at: usize = 0;
     while at < words.len() {
-        let after = lent.step(word_at(words, at), &mut tbf, &mut rbf);
+        let after = lent.step(word_at(words, at), tbf, rbf);
         lent = after.lent;
         let answer = after.answer;
         // "A refused word in a list does not stop the list": its answer is of kind 15.
@@ -79,5 +98,47 @@ pub extern "C" fn iebus_run(words: &[u8], answers: &mut [u8]) -> u32
         put_word(answers, at, answer_word(Answer::Given(reply)));
         at += WORD_BYTES;
     }
-    0
+    lent
+}
+
+// The words run from the unit given. The answer to the word at byte at stands at byte at of `answers`; bytes past the
+// last answer keep their contents. The number is 0, or 11 where the bytes are no whole words, or 12 where `answers` is
+// shorter than `words`; then nothing is run and nothing written.
+pub fn run_bytes(from: Unit, words: &[u8], answers: &mut [u8]) -> RanBytes
+    ensures { λ r. ⌜ r .number ≡ byteRefusal (now (words .entry)) (now (answers .entry)) ⌝ }
+    ensures { λ r. ⌜ stateOf (r .unit) ≡ stateAfter (stateOf from) (now (words .entry)) (now (answers .entry)) ⌝ }
+    ensures { λ _. ⌜ now (answers .exit) ≡ bytesAfter (stateOf from) (now (words .entry)) (now (answers .entry)) ⌝ }
+{
+    let number = byte_refusal(words.len(), answers.len());
+    if number != 0 {
+        return RanBytes { unit: from, number };
+    }
+    let core = from.core;
+    let tbf = from.tbf;
+    let rbf = from.rbf;
+    let mut sent = tbf.bytes;
+    let mut stored = rbf.bytes;
+    let sent_span = tbf.span;
+    let stored_span = rbf.span;
+    let lent = Lent {
+        core,
+        tbf: sent_span,
+        rbf: stored_span,
+    };
+    let after = run_spelled(lent, words, answers, &mut sent, &mut stored);
+    RanBytes {
+        unit: unit_of(after, sent, stored),
+        number,
+    }
+}
+
+// The words run from a reset unit.
+#[no_mangle]
+pub extern "C" fn iebus_run(words: &[u8], answers: &mut [u8]) -> u32
+    ensures { λ r. ⌜ r ≡ byteRefusal (now (words .entry)) (now (answers .entry)) ⌝ }
+    ensures { λ _. ⌜ now (answers .exit) ≡ bytesAfter reset (now (words .entry)) (now (answers .entry)) ⌝ }
+    ensures { λ _. ⌜ Protected unit ⌝ }
+{
+    let ran = run_bytes(Unit::reset(), words, answers);
+    ran.number
 }

@@ -56,7 +56,7 @@ fn run_lent(
     lent
 }
 
-fn unit_of(lent: Lent, sent: [u8; TBF_BYTES], stored: [u8; RBF_BYTES]) -> Unit
+pub(crate) fn unit_of(lent: Lent, sent: [u8; TBF_BYTES], stored: [u8; RBF_BYTES]) -> Unit
     ensures { λ r. ⌜ stateOf r ≡ stateIn lent sent stored ⌝ }
 {
     let core = lent.core;

@@ -21,6 +21,7 @@ use Rattle.frame.specs.Masters as masters
 use Rattle.frame.specs.Step as level
 use Rattle.frame.specs.Cases.{field}
 use Rattle.frame.specs.declared.place.Place.the-variants.{Waiting}
+use Rattle.line.proofs.Either.{both}
 use Rattle.isolation.specs.Words.{count, framed, keeps, kept, levels, marked, marks, spaced, spells}
 use Rattle.isolation.specs.Runs.{Alike, Behind, Compared, Given, Protected, answers, run}
 use Rattle.unit.specs.State as state
@@ -89,10 +90,6 @@ begin = run unit reset lockTaken
 along : (State → Bool) → State → List ℕ → Bool
 along p s [] = p s
 along p s (w ∷ ws) = p s && along p (unit .step s w) ws
-
-both : (a b : Bool) → (a && b) ≡ true → (a ≡ true) × (b ≡ true)
-both true b e = (refl, e)
-both false b e = absurd (subst T (sym e) tt)
 
 along-at : (p : State → Bool) (s : State) (ws : List ℕ) (k : ℕ) → along p s ws ≡ true
     → p (run unit s (take k ws)) ≡ true

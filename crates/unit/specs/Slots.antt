@@ -14,8 +14,6 @@ use Rattle.frame.specs.declared.place.Event.the-variants.{Nothing as Quiet, Los
 use Rattle.frame.specs.declared.place.Event.the-variants.{LengthAcked, ByteAcked}
 use Rattle.frame.specs.declared.place.Event.the-variants.{AllAcked, ShortAcked, Aborted}
 use Rattle.frame.specs.declared.place.Moved.{Moved}
-use Rattle.frame.specs.declared.place.Field.{Field}
-use Rattle.frame.specs.declared.place.Field.the-variants.{Broadcast, Master, Slave, Control, Length, Data}
 use Rattle.frame.specs.declared.place.Frame.{Frame}
 use Rattle.frame.specs.declared.place.Place.{Place}
 use Rattle.frame.specs.declared.place.Place.the-variants.{Waiting, In}

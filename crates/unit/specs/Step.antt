@@ -5,7 +5,7 @@ use mathlib.Core.List.{List, [], _∷_}
 use lib.Dec.{eqb}
 use Rattle.line.specs.Choice.{pick}
 use Rattle.line.specs.Slot.{Class, slot, host, classOf}
-use Rattle.line.specs.Numbers.{kindTaken, kindWritten, kindValue, kindRefused, refusedLevel, refusedStrayBit}
+use Rattle.line.specs.Numbers.{driveLow, kindTaken, kindWritten, kindValue, kindRefused, refusedLevel, refusedStrayBit}
 use Rattle.line.specs.declared.slot.Slot.{Slot}
 use Rattle.line.specs.declared.slot.Slot.the-variants.{Level, Start, Idle, Stray}
 use Rattle.unit.specs.declared.answer.Answer.{Answer}
@@ -30,7 +30,7 @@ actedOn s a = record { core = a .core; tbf = tbfAfter (a .act) (s .tbf); rbf = r
 
 -- number 5: "level 1 while the unit drives 0"
 unfoldable pub clashes : State → Bool → Bool
-clashes s bit = bit && eqb (nextDrive s) 0
+clashes s bit = bit && eqb (nextDrive s) driveLow
 
 unfoldable pub slotOn : State → Slot → State
 slotOn s (Level bit) = pick (clashes s bit) s (actedOn s (onLevel (s .core) bit (seenOf (s .tbf) (s .rbf))))

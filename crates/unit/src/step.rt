@@ -27,6 +27,7 @@ use crate::state::Acted;
 use crate::state::Core;
 use crate::state::Seen;
 use line::numbers::CTR_RESET;
+use line::numbers::DRIVE_LOW;
 use line::numbers::KIND_READ;
 use line::numbers::KIND_SLOT;
 use line::numbers::KIND_WRITE;
@@ -48,7 +49,7 @@ pub struct Lent {
     pub rbf: Span,
 }
 
-// It after a word, and its answer.
+// What a step hands back where the buffers are lent: they are changed in place.
 pub struct Answered {
     pub lent: Lent,
     pub answer: Answer,
@@ -61,7 +62,7 @@ pub struct Unit {
     pub rbf: Rbf,
 }
 
-// It after a word, and its answer.
+// What a step by value hands back.
 pub struct Stepped {
     pub unit: Unit,
     pub answer: Answer,
@@ -157,7 +158,7 @@ impl Lent {
     fn clash(self, bit: bool) -> bool
         ensures { λ r. ⌜ Clashes self bit r ⌝ }
     {
-        bit & (self.drive() == 0)
+        bit & (self.drive() == DRIVE_LOW)
     }
 
     fn level(self, bit: bool, tbf: &[u8; TBF_BYTES], rbf: &mut [u8; RBF_BYTES]) -> Answered

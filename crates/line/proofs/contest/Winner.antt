@@ -16,16 +16,12 @@ use Rattle.line.specs.Contest.{nobody, inRange, outOfRange, alike, first
 use Rattle.line.specs.Contest.{lossOf, lossesOf, winnerOf, Before, Wins}
 use Rattle.line.specs.Deciding.{differs, differences, Fair, Least}
 use Rattle.line.specs.declared.contest.Contender.{Contender}
-use Rattle.line.proofs.Either.{below-or-not}
+use Rattle.line.proofs.Either.{below-or-not, both}
 use Rattle.line.proofs.contest.Places.{first-none, first-is, no-twin}
 use Rattle.line.proofs.contest.Slots.{Close, AllClose, Among, loss-differs, differs-self, differs-none}
 use Rattle.line.proofs.contest.Slots.{differs-slot}
 
 -- ---- one contender and two
-
-both : (a b : Bool) → (a && b) ≡ true → (a ≡ true) × (b ≡ true)
-both true b e = (refl, e)
-both false b e = absurd (subst T (sym e) tt)
 
 pub record Ranged (c : Contender) : Type 0 where
   pub bit-le : c .bit ≤ 1
