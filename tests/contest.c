@@ -5,7 +5,7 @@
 #include <string.h>
 
 #include "contest.h"
-#include "iebus_contest.h"
+#include "iebus.h"
 
 _Static_assert(sizeof(struct iebus_contender) == 4, "a record is four bytes");
 _Static_assert(offsetof(struct iebus_contender, address) == 2, "the address follows the bit, at an even place");
