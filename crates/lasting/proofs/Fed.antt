@@ -13,9 +13,9 @@ use Rattle.isolation.specs.Runs.{Behind, Compared, Given, Protected, answers, r
 use Rattle.isolation.proofs.Appended.{run-append, answers-append}
 use Rattle.unit.specs.Machine.{observed, unit}
 use Rattle.unit.specs.State.{State, reset}
-use Rattle.list_run.specs.Bytes.{byteRefusal, bytesAfter, bytesOf, bytesOfWord, wordFrom, wordsOf}
+use Rattle.list_run.specs.Bytes.{CalledBytes, byteRefusal, bytesAfter, bytesOf, bytesOfWord, wordFrom, wordsOf}
 use Rattle.list_run.proofs.Alike.{AlikeIn, answers-alike}
-use Rattle.list_run.proofs.Called.{CalledBytes, answers-length, answers-spelled}
+use Rattle.list_run.proofs.Called.{answers-length, answers-spelled}
 use Rattle.list_run.proofs.Spelled.{taken-whole}
 use Rattle.lasting.specs.Calls.{resetBytes, resetState, runAnswers, runBytes, runRefusal, runState, sizeRefusal}
 use Rattle.lasting.specs.Decode.{decode}
