@@ -52,7 +52,8 @@ pub extern "C" fn iebus_unit_run(state: &mut [u8], words: &[u8], answers: &mut [
     if state.len() != STATE_BYTES {
         return REFUSED_STATE_SIZE;
     }
-    let ran = run_bytes(unit_from(state), words, answers);
+    let kept = unit_from(state);
+    let ran = run_bytes(kept, words, answers);
     put_unit(state, ran.unit);
     0
 }
