@@ -1,19 +1,19 @@
 -- A state from the bytes that keep it: decoding an encoding gives the state back.
 use mathlib.Core.Bool.{Bool, true, false}
-use mathlib.Core.Path.{_≡_, refl, sym, ap, _∙_}
+use mathlib.Core.Path.{_≡_, refl, ap, _∙_}
 use mathlib.Core.List.{List, [], _∷_, _++_, append-assoc, append-nil}
-use Prim.Native.Nat.{ℕ, suc, _+_, _*_, _/_, _%_, _≤_, _<_}
+use Prim.Native.Nat.{ℕ, zero, suc, _≤_, _<_}
 use native.Mathlib.Omega.{arith}
 use borrow.Rule.Slice.PartMut.{putMid}
 use lib.ListN.{length, take, drop, getD, drop-of-length-le, length-append, length-drop}
 use lib.Seq.{take-all, take-at, drop-at}
 use Rattle.line.specs.Choice.{bitOf}
 use Rattle.line.specs.Numbers.{rbfBytes, tbfBytes}
-use Rattle.frame.specs.declared.place.Field.{Field}
 use Rattle.frame.specs.declared.place.Field.the-variants.{Broadcast, Master, Slave, Control, Length, Data}
 use Rattle.frame.specs.declared.place.Frame.{Frame}
 use Rattle.frame.specs.declared.place.Place.{Place}
 use Rattle.frame.specs.declared.place.Place.the-variants.{Waiting, In}
+use Rattle.unit.specs.Queue.{heldOf}
 use Rattle.unit.specs.State.{State}
 use Rattle.unit.specs.declared.state.Registers.{Registers}
 use Rattle.lasting.specs.Calls.{Keeps}
@@ -21,7 +21,7 @@ use Rattle.lasting.specs.Layout.{frameEnd, idlePlace, part, registersEnd
 use Rattle.lasting.specs.Encode.{Fits, FrameFits, RegistersFit, bufferBytes, encode, frameBytes, high, low}
 use Rattle.lasting.specs.Encode.{placeCount, placeNumber, registerBytes}
 use Rattle.lasting.specs.Decode.{bufferIn, decode, flagOf, frameIn, joined, placeOf, registersIn}
-use Rattle.lasting.proofs.Parts.{buffer-length, held-same, placed}
+use Rattle.lasting.proofs.Parts.{buffer-length, held-most, held-same, placed}
 
 pair-again : (n : ℕ) → n < 0x1_0000 → joined (low n) (high n) ≡ n
 pair-again n h = omega arith
@@ -127,6 +127,36 @@ module _ (s : State) (fits : Fits s) where
         buffer-again tbfBytes (s .tbf) (fits .tbf),
         buffer-again rbfBytes (s .rbf) (fits .rbf),
       )
+
+-- ---- how many bytes there are
+
+take-most : (k : ℕ) (l : List ℕ) → length (take k l) ≤ k
+take-most zero l = omega arith
+take-most (suc k) [] = omega arith
+take-most (suc k) (x ∷ l) = omega (arith, take-most k l)
+
+buffer-most : (room : ℕ) (l : List ℕ) → length (bufferIn room l) ≤ room
+unfolding bufferIn
+buffer-most room l =
+    omega (arith, take-most (heldOf room (getD l 0 0)) (drop 1 l), held-most room (getD l 0 0))
+
+encode-length : (s : State) → length (s .tbf) ≤ tbfBytes → length (s .rbf) ≤ rbfBytes → length (encode s) ≡ stateBytes
+unfolding encode registerBytes frameBytes
+encode-length s t r =
+    omega (
+      arith,
+      length-append (bufferBytes tbfBytes (s .tbf)) (bufferBytes rbfBytes (s .rbf)),
+      buffer-length tbfBytes (s .tbf) t,
+      buffer-length rbfBytes (s .rbf) r,
+    )
+
+-- bytes that encode what they decode to have the size of a state
+pub same-size : (l : List ℕ) → l ≡ encode (decode l) → length l ≡ stateBytes
+unfolding decode
+same-size l e =
+    ap length e
+    ∙ encode-length (decode l) (buffer-most tbfBytes (part frameEnd tbfEnd l))
+    (buffer-most rbfBytes (part tbfEnd stateBytes l))
 
 -- ---- the parts, lent and given back one after the other
 

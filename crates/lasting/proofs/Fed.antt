@@ -2,12 +2,12 @@
 -- any number of calls, is one run; and demand 3 for two such lists.
 use mathlib.Core.Path.{_≡_, refl, sym, ap, _∙_}
 use mathlib.Core.List.{List, [], _∷_, _++_, append-nil}
-use Prim.Native.Nat.{ℕ, suc, _+_, _*_, _%_, _≤_}
+use Prim.Native.Nat.{ℕ, _*_, _%_}
 use native.Mathlib.Omega.{arith}
 use mathlib.Core.Logic.{⊎-elim}
 use borrow.Author.Tests.{eq-eqb, ne-eqb}
-use lib.ListN.{length, take, drop, length-append}
-use lib.Seq.{take-at, take-length}
+use lib.ListN.{length, take, length-append}
+use lib.Seq.{take-at}
 use Rattle.line.proofs.Either.{same-or-not}
 use Rattle.isolation.specs.Runs.{Behind, Compared, Given, Protected, answers, run}
 use Rattle.isolation.proofs.Appended.{run-append, answers-append}
@@ -20,6 +20,8 @@ use Rattle.list_run.proofs.Spelled.{taken-whole}
 use Rattle.lasting.specs.Calls.{resetBytes, resetState, runAnswers, runBytes, runRefusal, runState, sizeRefusal}
 use Rattle.lasting.specs.Decode.{decode}
 use Rattle.lasting.specs.Encode.{encode}
+use Rattle.lasting.specs.Layout.{stateBytes}
+use Rattle.lasting.proofs.Again.{same-size}
 
 -- a call of `iebus_unit_reset` on the bytes `kept` that returns a number and leaves the bytes kept′
 pub record Reset (kept : List ℕ) (number : ℕ) (kept′ : List ℕ) : Type 0 where
@@ -131,6 +133,16 @@ as-one-run (more {kept} {words} {out} {middle} {out′} {words′} {said} {kept�
       answered = rw (first .answered, rest .answered, first .state, apart, answers-append unit s A B)
           (sym (bytes-append (answers unit s A) (answers unit (run unit s A) B)));
     }
+
+-- the bytes that the calls leave have the size of a state, so that only the lists of the next call can be refused
+pub next-refusal : {kept words said kept′ : List ℕ} → Fed kept words said kept′ → (next out : List ℕ)
+    → runRefusal kept′ next out ≡ byteRefusal next out
+unfolding runRefusal sizeRefusal
+next-refusal {kept} {words} {said} {kept′} calls next out =
+    let many = as-one-run calls in
+    let size : length kept′ ≡ stateBytes = same-size kept′ (many .bytes ∙ ap encode (sym (many .state))) in
+    ⊎-elim (λ e. rw (eq-eqb (byteRefusal next out) 0 e, size) (sym e)) (λ n. rw (ne-eqb (byteRefusal next out) 0 n))
+    (same-or-not (byteRefusal next out) 0)
 
 -- what the calls leave and answer is what one call for all the words leaves and answers
 pub pieces-are-one : {kept words said kept′ out kept″ out″ : List ℕ} → Fed kept words said kept′

@@ -48,10 +48,6 @@ pub placed : (done old part : List ℕ) (n m : ℕ) → length done ≡ n → le
     → take n (done ++ old) ++ (part ++ drop m (drop n (done ++ old))) ≡ (done ++ part) ++ drop m old
 placed done old part n m e h = rw (take-at done old n e, drop-at done old n e, append-assoc)
 
-pub first-set : (l : List ℕ) (v : ℕ) → 0 < length l → set l 0 v ≡ (v ∷ []) ++ drop 1 l
-first-set [] v h = absurd (let b : ⊥ = omega arith in b)
-first-set (x ∷ l) v h = refl
-
 -- ---- circles
 
 pub items-nil : (n : ℕ) (bytes : List ℕ) (f : ℕ) → items n bytes f 0 ≡ []

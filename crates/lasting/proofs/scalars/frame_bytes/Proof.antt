@@ -1,5 +1,4 @@
 use borrow.Author.Needs.{needs}
-use native.Mathlib.Omega.{arith}
 use Rattle.lasting.specs.Encode.{frameBytes}
 use Rattle.lasting.proofs.scalars.frame_bytes.Statement.{statement}
 use Rattle.lasting.proofs.scalars.frame_bytes.Tie as tie
