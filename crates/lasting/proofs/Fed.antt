@@ -17,25 +17,12 @@ use Rattle.list_run.specs.Bytes.{CalledBytes, byteRefusal, bytesAfter, bytesOf,
 use Rattle.list_run.proofs.Alike.{AlikeIn, answers-alike}
 use Rattle.list_run.proofs.Called.{answers-length, answers-spelled}
 use Rattle.list_run.proofs.Spelled.{taken-whole}
-use Rattle.lasting.specs.Calls.{resetBytes, resetState, runAnswers, runBytes, runRefusal, runState, sizeRefusal}
+use Rattle.lasting.specs.Calls.{Ran, Reset, resetBytes, resetState, runAnswers, runBytes, runRefusal}
+use Rattle.lasting.specs.Calls.{runState, sizeRefusal}
 use Rattle.lasting.specs.Decode.{decode}
 use Rattle.lasting.specs.Encode.{encode}
 use Rattle.lasting.specs.Layout.{stateBytes}
 use Rattle.lasting.proofs.Again.{same-size}
-
--- a call of `iebus_unit_reset` on the bytes `kept` that returns a number and leaves the bytes kept′
-pub record Reset (kept : List ℕ) (number : ℕ) (kept′ : List ℕ) : Type 0 where
-  pub ends : number ≡ sizeRefusal kept
-  pub left : kept′ ≡ resetBytes kept
-  pub again : decode kept′ ≡ resetState kept
-
--- a call of `iebus_unit_run` on the bytes `kept` and the answer bytes `out`, and what it leaves of both
-pub record Ran (kept words out : List ℕ) (number : ℕ) (kept′ out′ : List ℕ) : Type 0 where
-  pub ends : number ≡ runRefusal kept words out
-  pub written : out′ ≡ runAnswers kept words out
-  pub left : kept′ ≡ runBytes kept words out
-  pub again : decode kept′ ≡ runState kept words out
-  pub protected : Protected unit
 
 -- calls one after the other, none refused, each on the bytes that the last one left: the words of all of them as one
 -- list, and their answers

@@ -5,7 +5,7 @@ use Prim.Native.Nat.{ℕ}
 use lib.Dec.{eqb}
 use lib.ListN.{drop, length}
 use Rattle.line.specs.Choice.{pick}
-use Rattle.isolation.specs.Runs.{run, answers}
+use Rattle.isolation.specs.Runs.{Protected, run, answers}
 use Rattle.unit.specs.Machine.{unit}
 use Rattle.unit.specs.State.{State, reset}
 use Rattle.list_run.specs.Bytes.{byteRefusal, bytesOf, wordsOf}
@@ -53,3 +53,20 @@ unfoldable pub runAnswers : List ℕ → List ℕ → List ℕ → List ℕ
 runAnswers bytes words out =
     pick (eqb (runRefusal bytes words out) 0)
     (bytesOf (answers unit (decode bytes) (wordsOf words)) ++ drop (length words) out) out
+
+-- ---- what a call promises
+
+-- `iebus_unit_reset` on the bytes `kept`, which returns a number and leaves the bytes kept′; decoding them gives the
+-- unit back
+pub record Reset (kept : List ℕ) (number : ℕ) (kept′ : List ℕ) : Type 0 where
+  pub ends : number ≡ sizeRefusal kept
+  pub left : kept′ ≡ resetBytes kept
+  pub again : decode kept′ ≡ resetState kept
+
+-- `iebus_unit_run` on the bytes `kept` and the answer bytes `out`, and what it leaves of both; the last is demand 3
+pub record Ran (kept words out : List ℕ) (number : ℕ) (kept′ out′ : List ℕ) : Type 0 where
+  pub ends : number ≡ runRefusal kept words out
+  pub written : out′ ≡ runAnswers kept words out
+  pub left : kept′ ≡ runBytes kept words out
+  pub again : decode kept′ ≡ runState kept words out
+  pub protected : Protected unit

@@ -1,11 +1,6 @@
 // The calls of a host in C that keeps a unit: "A list may go over any number of list runs, each from the state that
 // the last one left."
-ghost use mathlib.Core.Path.{_≡_};
-ghost use Rattle.isolation.specs.Runs.{Protected};
-ghost use Rattle.unit.specs.Machine.{unit};
-ghost use Rattle.lasting.specs.Calls.{resetBytes, resetState, runAnswers, runBytes, runRefusal, runState};
-ghost use Rattle.lasting.specs.Calls.{sizeRefusal};
-ghost use Rattle.lasting.specs.Decode.{decode};
+ghost use Rattle.lasting.specs.Calls.{Ran, Reset};
 use crate::layout::STATE_BYTES;
 use crate::whole::put_unit;
 use crate::whole::unit_from;
@@ -19,9 +14,7 @@ const REFUSED_STATE_SIZE: u32 = 100;
 // A reset unit in `state`: 0, or 100 where `state` has not the size of a state; then nothing is written.
 #[no_mangle]
 pub extern "C" fn iebus_unit_reset(state: &mut [u8]) -> u32
-    ensures { λ r. ⌜ r ≡ sizeRefusal (now (state .entry)) ⌝ }
-    ensures { λ _. ⌜ now (state .exit) ≡ resetBytes (now (state .entry)) ⌝ }
-    ensures { λ _. ⌜ decode (now (state .exit)) ≡ resetState (now (state .entry)) ⌝ }
+    ensures { λ r. ⌜ Reset (now (state .entry)) r (now (state .exit)) ⌝ }
 {
     if state.len() != STATE_BYTES {
         return REFUSED_STATE_SIZE;
@@ -36,13 +29,8 @@ pub extern "C" fn iebus_unit_reset(state: &mut [u8]) -> u32
 // nothing is run and nothing written.
 #[no_mangle]
 pub extern "C" fn iebus_unit_run(state: &mut [u8], words: &[u8], answers: &mut [u8]) -> u32
-    ensures { λ r. ⌜ r ≡ runRefusal (now (state .entry)) (now (words .entry)) (now (answers .entry)) ⌝ }
-    ensures { λ _. ⌜ now (answers .exit)
-        ≡ runAnswers (now (state .entry)) (now (words .entry)) (now (answers .entry)) ⌝ }
-    ensures { λ _. ⌜ now (state .exit) ≡ runBytes (now (state .entry)) (now (words .entry)) (now (answers .entry)) ⌝ }
-    ensures { λ _. ⌜ decode (now (state .exit))
-        ≡ runState (now (state .entry)) (now (words .entry)) (now (answers .entry)) ⌝ }
-    ensures { λ _. ⌜ Protected unit ⌝ }
+    ensures { λ r. ⌜ Ran (now (state .entry)) (now (words .entry)) (now (answers .entry)) r (now (state .exit))
+        (now (answers .exit)) ⌝ }
 {
     // "The lowest number wins": the lists come before the size.
     let number = byte_refusal(words.len(), answers.len());

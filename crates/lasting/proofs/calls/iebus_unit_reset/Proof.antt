@@ -11,11 +11,15 @@ unfolding sizeRefusal resetBytes resetState
 iebus-unit-reset-spec =
     tie.close
     (tie.spec
-    (λ c. let wrong = ne-eqb _ _ (c .if1 .taken) in (simp wrong, (simp wrong, simp wrong)))
+    (λ c. let wrong = ne-eqb _ _ (c .if1 .taken) in record { ends = simp wrong; left = simp wrong; again = simp wrong })
     (λ c κs. search needs)
     (λ c κs. search needs)
     (λ c. search needs)
     (λ c. let right = eq-eqb _ _ (c .before .before .before .before .before .if1 .left) in
     let keeps = c .before .before .put-unit .ensures in
     let fresh = c .before .before .before .reset .ensures in
-    (simp right, (keeps .spelled ∙ ap encode fresh ∙ simp right, keeps .again ∙ fresh ∙ simp right))))
+    record {
+      ends = simp right;
+      left = keeps .spelled ∙ ap encode fresh ∙ simp right;
+      again = keeps .again ∙ fresh ∙ simp right;
+    }))

@@ -15,13 +15,23 @@ iebus-unit-run-spec =
     (λ c κs. search needs)
     (λ c. let number = c .before .byte-refusal .ensures in
     let some = ne-eqb _ _ (c .if1 .taken) in
-    (simp (← number, some), (simp (← number, some), (simp (← number, some), (simp (← number, some), holds)))))
+    record {
+      ends = simp (← number, some);
+      written = simp (← number, some);
+      left = simp (← number, some);
+      again = simp (← number, some);
+      protected = holds;
+    })
     (λ c. let number = c .before .before .byte-refusal .ensures in
     let none = eq-eqb _ _ (c .before .if1 .left) in
-    let wrong = ne-eqb _ _ (c .if2 .taken) in (
-      simp (← number, none, wrong),
-      (simp (← number, none, wrong), (simp (← number, none, wrong), (simp (← number, none, wrong), holds))),
-    ))
+    let wrong = ne-eqb _ _ (c .if2 .taken) in
+    record {
+      ends = simp (← number, none, wrong);
+      written = simp (← number, none, wrong);
+      left = simp (← number, none, wrong);
+      again = simp (← number, none, wrong);
+      protected = holds;
+    })
     (λ c κs. search needs)
     (λ c κs. search needs)
     (λ c κs. search needs)
@@ -34,4 +44,10 @@ iebus-unit-run-spec =
     let all = promised _ _ _ _ _ _ _ (sym (listed .before .byte-refusal .ensures) ∙ listed .if1 .left)
     (sized .if2 .left) (at .before .before .unit-from .ensures) (ran .1 .0) (ran .1 .1)
     (c .before .before .put-unit .ensures) in
-    (sym (all .number), (all .written, (all .left, (all .again, holds))))))
+    record {
+      ends = sym (all .number);
+      written = all .written;
+      left = all .left;
+      again = all .again;
+      protected = holds;
+    }))
