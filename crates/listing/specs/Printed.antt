@@ -5,6 +5,7 @@ use lib.Dec.{ltb}
 use lib.ListN.{length, take, replicate}
 use Rattle.line.specs.Choice.{pick}
 use Rattle.list_run.specs.Bytes.{bytesAfter}
+use Rattle.unit.specs.State.{reset}
 use Rattle.text.specs.Last.{mostBytes}
 use Rattle.text.specs.Listing.{listedOf}
 
@@ -14,7 +15,7 @@ wholeWords bytes = pick (ltb mostBytes bytes) mostBytes (bytes - bytes % 4)
 
 -- the answers to these words of the run from a reset unit, as its bytes
 abbrev pub answeredOf : List ℕ → List ℕ
-answeredOf input = bytesAfter (take (wholeWords (length input)) input) (replicate mostBytes 0)
+answeredOf input = bytesAfter reset (take (wholeWords (length input)) input) (replicate mostBytes 0)
 
 -- what is printed: the listing of the input with these answers, in a text of so many bytes
 unfoldable pub printedOf : List ℕ → ℕ → List ℕ

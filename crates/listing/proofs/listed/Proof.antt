@@ -3,6 +3,7 @@ use Prim.Native.Nat.{ℕ, _-_}
 use native.Mathlib.Omega.{arith}
 use lib.ListN.{length, take, replicate}
 use Rattle.list_run.specs.Bytes.{bytesAfter}
+use Rattle.unit.specs.State.{reset}
 use Rattle.text.specs.Last.{mostBytes}
 use Rattle.listing.specs.Printed.{answeredOf, printedOf, wholeWords}
 use borrow.Author.Needs.{needs}
@@ -28,8 +29,8 @@ listed-spec =
     let input = entry .input .now in
     let from-zero : wholeWords (length input) - 0 ≡ wholeWords (length input) = omega arith in
     let is : ran .iebus-run .last .1 .0 ≡ answeredOf input =
-    (rw (ran .before .before .before .whole-words .ensures .0) at (ran .iebus-run .ensures .1 .0))
-    ∙ ap (λ (k : ℕ). bytesAfter (take k input) (replicate mostBytes 0)) from-zero
+    (rw (ran .before .before .before .whole-words .ensures .0) at (ran .iebus-run .ensures .written))
+    ∙ ap (λ (k : ℕ). bytesAfter reset (take k input) (replicate mostBytes 0)) from-zero
     in
     let listed = c .before .before .listing .ensures in
     (rw is at (listed .0), (rw is at (listed .1 .0), listed .1 .1))))
