@@ -1,5 +1,4 @@
 // How a unit's part in a frame ends: return codes, flags, TBF and the lock.
-ghost use mathlib.Core.Bool.{false};
 ghost use mathlib.Core.Path.{_≡_};
 ghost use Prim.Native.Nat.{_≤_};
 ghost use Rattle.unit.specs.Endings.{cutOf, dataEnded, draws, endCode, endedOf, frees, leftOf, lengthEnded};
@@ -7,8 +6,6 @@ ghost use Rattle.unit.specs.Endings.{lockAfter};
 ghost use Rattle.unit.specs.Endings.{lockedTo, partEnded, receptionCode, receptionEnded, requestEnded};
 ghost use Rattle.unit.specs.Endings.{sendingEnded};
 ghost use Rattle.unit.specs.Endings.{slaveEnded, ties, unlocked};
-ghost use Rattle.unit.specs.Set.{registers·marc, registers·marq, registers·slrc, registers·slre};
-ghost use Rattle.unit.specs.Set.{registers·strq};
 use crate::state::Act;
 use crate::state::Acted;
 use crate::state::Core;
@@ -98,59 +95,42 @@ fn lock_after(frame: Frame, whole: bool, regs: Registers) -> Registers
     regs
 }
 
-fn request_over(mut regs: Registers, code: u8) -> Registers
-    ensures { λ r. ⌜ r ≡ registers·marc code (registers·marq false regs) ⌝ }
-{
-    regs.marq = false;
-    regs.marc = code;
-    regs
-}
-
-fn sending_over(mut regs: Registers, code: u8) -> Registers
-    ensures { λ r. ⌜ r ≡ registers·strq false (registers·slrc code regs) ⌝ }
-{
-    regs.slrc = code;
-    regs.strq = false;
-    regs
-}
-
-fn reception_over(mut regs: Registers, code: u8) -> Registers
-    ensures { λ r. ⌜ r ≡ registers·slre false (registers·slrc code regs) ⌝ }
-{
-    regs.slrc = code;
-    regs.slre = false;
-    regs
-}
-
 // A master's request has ended: "normal or aborted clears MARQ ..; the end of a sending request empties TBF".
-pub(crate) fn request_ended(core: Core, whole: bool) -> Acted
+pub(crate) fn request_ended(mut core: Core, whole: bool) -> Acted
     ensures { λ r. ⌜ r ≡ requestEnded core whole ⌝ }
 {
     let regs = core.regs;
     if writes(regs.control) {
-        let over = request_over(regs, end_code(CODE_SENDING, whole));
-        return core.with_regs(over).acting(Act::Empty);
+        let code = end_code(CODE_SENDING, whole);
+        core.regs.marq = false;
+        core.regs.marc = code;
+        return core.acting(Act::Empty);
     }
-    let over = request_over(regs, end_code(CODE_RECEIVING, whole));
-    core.with_regs(over).acting(Act::Nothing)
+    let code = end_code(CODE_RECEIVING, whole);
+    core.regs.marq = false;
+    core.regs.marc = code;
+    core.acting(Act::Nothing)
 }
 
 // A slave's sending from TBF has ended: ".. STRQ ..".
-fn sending_ended(core: Core, whole: bool) -> Acted
+fn sending_ended(mut core: Core, whole: bool) -> Acted
     ensures { λ r. ⌜ r ≡ sendingEnded core whole ⌝ }
 {
-    let over = sending_over(core.regs, end_code(CODE_SENDING, whole));
-    core.with_regs(over).acting(Act::Empty)
+    let code = end_code(CODE_SENDING, whole);
+    core.regs.slrc = code;
+    core.regs.strq = false;
+    core.acting(Act::Empty)
 }
 
 // A slave's reception has ended: ".. or SLRE".
-fn reception_ended(core: Core, whole: bool) -> Acted
+fn reception_ended(mut core: Core, whole: bool) -> Acted
     ensures { λ r. ⌜ r ≡ receptionEnded core whole ⌝ }
 {
-    let frame = core.frame;
-    let started = reception_code(frame);
-    let over = reception_over(core.regs, end_code(started, whole));
-    core.with_regs(over).acting(Act::Nothing)
+    let started = reception_code(core.frame);
+    let code = end_code(started, whole);
+    core.regs.slrc = code;
+    core.regs.slre = false;
+    core.acting(Act::Nothing)
 }
 
 // A slave's part in the data has ended.

@@ -11,12 +11,4 @@ reception-ended-spec =
     (λ c κs. search needs)
     (λ c κs. search needs)
     (λ c κs. search needs)
-    (λ c κs. search needs)
-    (λ c κs. search needs)
-    (λ c. simp (
-      c .acting .ensures,
-      c .before .with-regs .ensures,
-      c .before .before .reception-over .ensures,
-      c .before .before .before .end-code .ensures,
-      c .before .before .before .before .reception-code .ensures .0,
-    )))
+    (λ c. simp (c .acting .ensures, c .before .before .before .end-code .ensures, c .before .before .before .before .reception-code .ensures .0)))

@@ -11,25 +11,7 @@ request-ended-spec =
     (λ c κs. search needs)
     (λ c κs. search needs)
     (λ c κs. search needs)
+    (λ c. simp (c .acting .ensures, ← c .before .before .before .end-code .ensures, c .before .before .before .before .if1 .taken, ← c .before .before .before .before .before .writes .ensures))
     (λ c κs. search needs)
     (λ c κs. search needs)
-    (λ c. simp (
-      c .acting .ensures,
-      c .before .with-regs .ensures,
-      c .before .before .request-over .ensures,
-      ← c .before .before .before .end-code .ensures,
-      c .before .before .before .before .if1 .taken,
-      ← c .before .before .before .before .before .writes .ensures,
-    ))
-    (λ c κs. search needs)
-    (λ c κs. search needs)
-    (λ c κs. search needs)
-    (λ c κs. search needs)
-    (λ c. simp (
-      c .acting2 .ensures,
-      c .before .with-regs2 .ensures,
-      c .before .before .request-over2 .ensures,
-      ← c .before .before .before .end-code2 .ensures,
-      c .before .before .before .before .if1 .left,
-      ← c .before .before .before .before .before .writes .ensures,
-    )))
+    (λ c. simp (c .acting2 .ensures, ← c .before .before .before .end-code2 .ensures, c .before .before .before .before .if1 .left, ← c .before .before .before .before .before .writes .ensures)))

@@ -10,11 +10,4 @@ sending-ended-spec =
     (tie.spec
     (λ c κs. search needs)
     (λ c κs. search needs)
-    (λ c κs. search needs)
-    (λ c κs. search needs)
-    (λ c. simp (
-      c .acting .ensures,
-      c .before .with-regs .ensures,
-      c .before .before .sending-over .ensures,
-      c .before .before .before .end-code .ensures,
-    )))
+    (λ c. simp (c .acting .ensures, c .before .before .before .end-code .ensures)))
