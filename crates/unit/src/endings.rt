@@ -2,14 +2,12 @@
 ghost use mathlib.Core.Path.{_≡_};
 ghost use Prim.Native.Nat.{_≤_};
 ghost use Rattle.unit.specs.Endings.{cutOf, dataEnded, draws, endCode, endedOf, frees, leftOf, lengthEnded};
-ghost use Rattle.unit.specs.Endings.{lockAfter};
-ghost use Rattle.unit.specs.Endings.{lockedTo, partEnded, receptionCode, receptionEnded, requestEnded};
-ghost use Rattle.unit.specs.Endings.{sendingEnded};
-ghost use Rattle.unit.specs.Endings.{slaveEnded, ties, unlocked};
+ghost use Rattle.unit.specs.Endings.{lockAfter, partEnded, receptionCode, receptionEnded, requestEnded};
+ghost use Rattle.unit.specs.Endings.{sendingEnded, slaveEnded, ties};
+ghost use Rattle.unit.specs.Set.{core·regs};
 use crate::state::Act;
 use crate::state::Acted;
 use crate::state::Core;
-use crate::state::Registers;
 use frame::place::Field;
 use frame::place::Frame;
 use frame::place::Place;
@@ -48,22 +46,6 @@ pub(crate) fn draws_bytes(frame: Frame) -> bool
     frame.sends & (frame.leads | (frame.control == 3) | (frame.control == 7))
 }
 
-fn unlock(mut regs: Registers) -> Registers
-    ensures { λ r. ⌜ r ≡ unlocked regs ⌝ }
-{
-    regs.locked = false;
-    regs.holder = 0;
-    regs
-}
-
-fn lock_to(mut regs: Registers, master: u16) -> Registers
-    ensures { λ r. ⌜ r ≡ lockedTo master regs ⌝ }
-{
-    regs.locked = true;
-    regs.holder = master;
-    regs
-}
-
 // 3H, AH and BH lock and unlock; "broadcasts do neither".
 fn ties_lock(frame: Frame) -> bool
     ensures { λ r. ⌜ r ≡ ties frame ⌝ }
@@ -80,19 +62,26 @@ fn frees_lock(frame: Frame, whole: bool) -> bool
 
 // "Once 3H, AH or BH has its length ACKed, the frame's end before all bytes are ACKed locks to its master; all bytes
 // ACKed unlocks. 6H unlocks when its byte is ACKed."
-fn lock_after(frame: Frame, whole: bool, regs: Registers) -> Registers
-    ensures { λ r. ⌜ r ≡ lockAfter frame whole regs ⌝ }
+fn lock_after(mut core: Core, whole: bool) -> Core
+    ensures { λ r. ⌜ r ≡ core·regs (lockAfter (core .frame) whole (core .regs)) core ⌝ }
 {
+    let frame = core.frame;
     if ties_lock(frame) {
         if whole {
-            return unlock(regs);
+            core.regs.locked = false;
+            core.regs.holder = 0;
+            return core;
         }
-        return lock_to(regs, frame.master);
+        core.regs.locked = true;
+        core.regs.holder = frame.master;
+        return core;
     }
     if frees_lock(frame, whole) {
-        return unlock(regs);
+        core.regs.locked = false;
+        core.regs.holder = 0;
+        return core;
     }
-    regs
+    core
 }
 
 // A master's request has ended: "normal or aborted clears MARQ ..; the end of a sending request empties TBF".
@@ -150,8 +139,7 @@ fn part_ended(core: Core, whole: bool) -> Acted
 fn data_ended(core: Core, whole: bool) -> Acted
     ensures { λ r. ⌜ r ≡ dataEnded core whole ⌝ }
 {
-    let regs = lock_after(core.frame, whole, core.regs);
-    part_ended(core.with_regs(regs), whole)
+    part_ended(lock_after(core, whole), whole)
 }
 
 // A slave's part in the length has ended: only a sending has begun.
@@ -196,11 +184,13 @@ pub(crate) fn ended(core: Core, whole: bool) -> Acted
 }
 
 // The frame has ended, or the unit has done its part.
-pub(crate) fn left(acted: Acted, frame: Frame) -> Acted
+pub(crate) fn left(mut acted: Acted, frame: Frame) -> Acted
     ensures { λ r. ⌜ r ≡ leftOf acted frame ⌝ }
 {
-    let core = acted.core;
-    acted.with_core(core.with_frame(frame))
+    let mut core = acted.core;
+    core.frame = frame;
+    acted.core = core;
+    acted
 }
 
 // "Start or idle inside a frame ends it there".

@@ -10,5 +10,4 @@ data-ended-spec =
     (tie.spec
     (λ c κs. search needs)
     (λ c κs. search needs)
-    (λ c κs. search needs)
-    (λ c. simp (c .part-ended .ensures, c .before .with-regs .ensures, c .before .before .lock-after .ensures)))
+    (λ c. simp (c .part-ended .ensures, c .before .lock-after .ensures)))

@@ -5,9 +5,4 @@ use Rattle.unit.proofs.endings.left.Tie as tie
 
 pub left-spec : {M : Type 1} → statement M
 unfolding leftOf
-left-spec =
-    tie.close
-    (tie.spec
-    (λ c κs. search needs)
-    (λ c κs. search needs)
-    (λ c. simp (c .with-core .ensures, c .before .with-frame .ensures)))
+left-spec = tie.close (tie.spec (λ c. search needs))

@@ -9,28 +9,22 @@ lock-after-spec =
     tie.close
     (tie.spec
     (λ c κs. search needs)
-    (λ c κs. search needs)
     (λ c. simp (
-      c .unlock .ensures,
-      c .before .if2 .taken,
-      c .before .before .if1 .taken,
-      ← c .before .before .before .ties-lock .ensures,
-    ))
-    (λ c κs. search needs)
-    (λ c. simp (
-      c .lock-to .ensures,
-      c .before .if2 .left,
-      c .before .before .if1 .taken,
-      ← c .before .before .before .ties-lock .ensures,
-    ))
-    (λ c κs. search needs)
-    (λ c κs. search needs)
-    (λ c. simp (
-      c .unlock2 .ensures,
-      c .before .if3 .taken,
-      ← c .before .before .frees-lock .ensures,
-      c .before .before .before .if1 .left,
+      c .before .before .if2 .taken,
+      c .before .before .before .if1 .taken,
       ← c .before .before .before .before .ties-lock .ensures,
+    ))
+    (λ c. simp (
+      c .before .before .if2 .left,
+      c .before .before .before .if1 .taken,
+      ← c .before .before .before .before .ties-lock .ensures,
+    ))
+    (λ c κs. search needs)
+    (λ c. simp (
+      c .before .before .if3 .taken,
+      ← c .before .before .before .frees-lock .ensures,
+      c .before .before .before .before .if1 .left,
+      ← c .before .before .before .before .before .ties-lock .ensures,
     ))
     (λ c. simp (
       c .if3 .left,

@@ -11,4 +11,8 @@ reception-ended-spec =
     (λ c κs. search needs)
     (λ c κs. search needs)
     (λ c κs. search needs)
-    (λ c. simp (c .acting .ensures, c .before .before .before .end-code .ensures, c .before .before .before .before .reception-code .ensures .0)))
+    (λ c. simp (
+      c .acting .ensures,
+      c .before .before .before .end-code .ensures,
+      c .before .before .before .before .reception-code .ensures .0,
+    )))

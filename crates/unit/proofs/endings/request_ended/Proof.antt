@@ -11,7 +11,17 @@ request-ended-spec =
     (λ c κs. search needs)
     (λ c κs. search needs)
     (λ c κs. search needs)
-    (λ c. simp (c .acting .ensures, ← c .before .before .before .end-code .ensures, c .before .before .before .before .if1 .taken, ← c .before .before .before .before .before .writes .ensures))
+    (λ c. simp (
+      c .acting .ensures,
+      ← c .before .before .before .end-code .ensures,
+      c .before .before .before .before .if1 .taken,
+      ← c .before .before .before .before .before .writes .ensures,
+    ))
     (λ c κs. search needs)
     (λ c κs. search needs)
-    (λ c. simp (c .acting2 .ensures, ← c .before .before .before .end-code2 .ensures, c .before .before .before .before .if1 .left, ← c .before .before .before .before .before .writes .ensures)))
+    (λ c. simp (
+      c .acting2 .ensures,
+      ← c .before .before .before .end-code2 .ensures,
+      c .before .before .before .before .if1 .left,
+      ← c .before .before .before .before .before .writes .ensures,
+    )))
