@@ -1,8 +1,6 @@
 // What a slot does to the scalars of a unit, and to its buffers.
 ghost use mathlib.Core.Path.{_≡_};
 ghost use Rattle.frame.specs.Set.{frame·byte};
-ghost use Rattle.unit.specs.Set.{core·frame, registers·losses, registers·marc, registers·rdr1, registers·rdr2};
-ghost use Rattle.unit.specs.Set.{registers·slrc};
 ghost use Rattle.unit.specs.Slots.{byteDrawn, coreDrive, countOf, counted, headerOf, lastAcked, lengthDrawn};
 ghost use Rattle.unit.specs.Slots.{nextDrawn, onAddressed, onByteAcked, onControlAcked, onEvent, onIdle};
 ghost use Rattle.unit.specs.Slots.{onLengthAcked, onLevel, onLost, onStart, otherParty, receptionBegun};
@@ -16,7 +14,6 @@ use crate::endings::request_ended;
 use crate::state::Act;
 use crate::state::Acted;
 use crate::state::Core;
-use crate::state::Registers;
 use crate::state::Seen;
 use frame::place::Event;
 use frame::place::Frame;
@@ -46,85 +43,55 @@ pub(crate) fn on_idle(core: Core) -> Acted
     after.with_core(rest.with_idle(true))
 }
 
-fn with_losses(mut regs: Registers, losses: u8) -> Registers
-    ensures { λ r. ⌜ r ≡ registers·losses losses regs ⌝ }
-{
-    regs.losses = losses;
-    regs
-}
-
-fn with_marc(mut regs: Registers, code: u8) -> Registers
-    ensures { λ r. ⌜ r ≡ registers·marc code regs ⌝ }
-{
-    regs.marc = code;
-    regs
-}
-
-fn with_slrc(mut regs: Registers, code: u8) -> Registers
-    ensures { λ r. ⌜ r ≡ registers·slrc code regs ⌝ }
-{
-    regs.slrc = code;
-    regs
-}
-
-fn with_rdr1(mut regs: Registers, n: u8) -> Registers
-    ensures { λ r. ⌜ r ≡ registers·rdr1 n regs ⌝ }
-{
-    regs.rdr1 = n;
-    regs
-}
-
-fn with_rdr2(mut regs: Registers, n: u8) -> Registers
-    ensures { λ r. ⌜ r ≡ registers·rdr2 n regs ⌝ }
-{
-    regs.rdr2 = n;
-    regs
-}
-
 // "After the first attempt and MCR's retries all lost, the request is aborted."
-fn on_lost(core: Core) -> Acted
+fn on_lost(mut core: Core) -> Acted
     ensures { λ r. ⌜ r ≡ onLost core ⌝ }
 {
     let regs = core.regs;
     if regs.losses < regs.retries {
-        let counted = with_losses(regs, regs.losses + 1);
-        return core.with_regs(counted).acting(Act::Nothing);
+        let losses = regs.losses + 1;
+        core.regs.losses = losses;
+        return core.acting(Act::Nothing);
     }
     request_ended(core, false)
 }
 
 // "Master sending starts with the P slot of its own address".
-fn on_addressed(core: Core) -> Core
+fn on_addressed(mut core: Core) -> Core
     ensures { λ r. ⌜ r ≡ onAddressed core ⌝ }
 {
     let frame = core.frame;
     let regs = core.regs;
     if frame.leads & writes(regs.control) {
-        return core.with_regs(with_marc(regs, CODE_SENDING));
+        core.regs.marc = CODE_SENDING;
+        return core;
     }
     core
 }
 
 // A code of the sending or reception under way: MARC for a master, SLRC for a slave.
-fn with_code(core: Core, code: u8) -> Core
+fn with_code(mut core: Core, code: u8) -> Core
     ensures { λ r. ⌜ r ≡ withCode core code ⌝ }
 {
     let frame = core.frame;
     if frame.leads {
-        return core.with_regs(with_marc(core.regs, code));
+        core.regs.marc = code;
+        return core;
     }
-    core.with_regs(with_slrc(core.regs, code))
+    core.regs.slrc = code;
+    core
 }
 
 // "Slave sending at control ACK".
-fn sending_begun(core: Core) -> Core
+fn sending_begun(mut core: Core) -> Core
     ensures { λ r. ⌜ r ≡ sendingBegun core ⌝ }
 {
     let frame = core.frame;
     if frame.leads {
         return core;
     }
-    core.with_regs(with_slrc(core.regs, CODE_SENDING))
+    core.regs.slrc = CODE_SENDING;
+    core
 }
 
 // "The length and each byte leave TBF as their field first begins."
@@ -197,14 +164,16 @@ fn header(frame: Frame) -> Act
 }
 
 // "The RDR becomes 3 and grows by 1 per byte (RDR1 master, RDR2 slave and broadcast ..)".
-fn with_count(core: Core, n: u8) -> Core
+fn with_count(mut core: Core, n: u8) -> Core
     ensures { λ r. ⌜ r ≡ withCount core n ⌝ }
 {
     let frame = core.frame;
     if frame.leads {
-        return core.with_regs(with_rdr1(core.regs, n));
+        core.regs.rdr1 = n;
+        return core;
     }
-    core.with_regs(with_rdr2(core.regs, n))
+    core.regs.rdr2 = n;
+    core
 }
 
 fn count(core: Core) -> u8

@@ -9,12 +9,5 @@ on-addressed-spec =
     tie.close
     (tie.spec
     (λ c κs. search needs)
-    (λ c κs. search needs)
-    (λ c κs. search needs)
-    (λ c. simp (
-      c .with-regs .ensures,
-      c .before .with-marc .ensures,
-      c .before .before .if1 .taken,
-      ← c .before .before .before .before .writes .ensures,
-    ))
+    (λ c. simp (c .before .if1 .taken, ← c .before .before .before .writes .ensures))
     (λ c. simp (c .if1 .left, ← c .before .before .writes .ensures)))

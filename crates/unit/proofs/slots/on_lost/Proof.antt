@@ -11,13 +11,6 @@ on-lost-spec =
     (tie.spec
     (λ c. search needs)
     (λ c κs. search needs)
-    (λ c κs. search needs)
-    (λ c κs. search needs)
-    (λ c. simp (
-      c .acting .ensures,
-      c .before .with-regs .ensures,
-      c .before .before .with-losses .ensures,
-      lt-ltb _ _ (c .before .before .before .before .if1 .taken),
-    ))
+    (λ c. simp (c .acting .ensures, lt-ltb _ _ (c .before .before .before .if1 .taken)))
     (λ c κs. search needs)
     (λ c. simp (c .request-ended .ensures, le-ltb _ _ (c .before .if1 .left))))

@@ -1,5 +1,4 @@
 use Rattle.unit.specs.Slots.{sendingBegun}
-use borrow.Author.Needs.{needs}
 use Rattle.unit.proofs.slots.sending_begun.Statement.{statement}
 use Rattle.unit.proofs.slots.sending_begun.Tie as tie
 
@@ -9,6 +8,4 @@ sending-begun-spec =
     tie.close
     (tie.spec
     (λ c. simp (c .if1 .taken))
-    (λ c κs. search needs)
-    (λ c κs. search needs)
-    (λ c. simp (c .with-regs .ensures, c .before .with-slrc .ensures, c .before .before .if1 .left)))
+    (λ c. simp (c .before .if1 .left)))

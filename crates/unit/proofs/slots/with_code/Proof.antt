@@ -1,5 +1,4 @@
 use Rattle.unit.specs.Slots.{withCode}
-use borrow.Author.Needs.{needs}
 use Rattle.unit.proofs.slots.with_code.Statement.{statement}
 use Rattle.unit.proofs.slots.with_code.Tie as tie
 
@@ -8,9 +7,5 @@ unfolding withCode
 with-code-spec =
     tie.close
     (tie.spec
-    (λ c κs. search needs)
-    (λ c κs. search needs)
-    (λ c. simp (c .with-regs .ensures, c .before .with-marc .ensures, c .before .before .if1 .taken))
-    (λ c κs. search needs)
-    (λ c κs. search needs)
-    (λ c. simp (c .with-regs2 .ensures, c .before .with-slrc .ensures, c .before .before .if1 .left)))
+    (λ c. simp (c .before .if1 .taken))
+    (λ c. simp (c .before .if1 .left)))
