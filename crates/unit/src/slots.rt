@@ -28,19 +28,22 @@ use line::numbers::DRIVE_START;
 pub(crate) fn on_start(core: Core, clear: bool) -> Acted
     ensures { λ r. ⌜ r ≡ onStart core clear ⌝ }
 {
-    let after = cut(core);
-    let rest = after.core;
+    let mut after = cut(core);
+    let mut rest = after.core;
     let regs = rest.regs;
     let begun = Frame::begun(regs.takes_part(clear), regs.long);
-    after.with_core(rest.with_frame(begun).with_idle(false))
+    rest.frame = begun;
+    rest.idle = false;
+    after.core = rest;
+    after
 }
 
 pub(crate) fn on_idle(core: Core) -> Acted
     ensures { λ r. ⌜ r ≡ onIdle core ⌝ }
 {
-    let after = cut(core);
-    let rest = after.core;
-    after.with_core(rest.with_idle(true))
+    let mut after = cut(core);
+    after.core.idle = true;
+    after
 }
 
 // "After the first attempt and MCR's retries all lost, the request is aborted."
@@ -95,15 +98,17 @@ fn sending_begun(mut core: Core) -> Core
 }
 
 // "The length and each byte leave TBF as their field first begins."
-fn length_drawn(core: Core, front: u8) -> Acted
+fn length_drawn(mut core: Core, front: u8) -> Acted
     ensures { λ r. ⌜ r ≡ lengthDrawn core front ⌝ }
 {
     let frame = core.frame;
-    core.with_frame(frame.with_length(front)).acting(Act::Take)
+    let drawn = frame.with_length(front);
+    core.frame = drawn;
+    core.acting(Act::Take)
 }
 
 // The length field begins: of TBF, or "length 1 and the status byte".
-fn on_control_acked(core: Core, seen: Seen) -> Acted
+fn on_control_acked(mut core: Core, seen: Seen) -> Acted
     ensures { λ r. ⌜ r ≡ onControlAcked core seen ⌝ }
 {
     let frame = core.frame;
@@ -111,7 +116,9 @@ fn on_control_acked(core: Core, seen: Seen) -> Acted
         return length_drawn(sending_begun(core), seen.front);
     }
     if frame.sends {
-        return core.with_frame(frame.with_length(1)).acting(Act::Nothing);
+        let fixed = frame.with_length(1);
+        core.frame = fixed;
+        return core.acting(Act::Nothing);
     }
     core.acting(Act::Nothing)
 }
@@ -261,7 +268,8 @@ fn on_event(event: Event, core: Core, next: Frame, seen: Seen) -> Acted
 {
     let frame = core.frame;
     let byte = (frame.shift % 256) as u8;
-    let moved = core.with_frame(next);
+    let mut moved = core;
+    moved.frame = next;
     match event {
         Event::Nothing => moved.acting(Act::Nothing),
         Event::Lost => on_lost(moved),
@@ -275,7 +283,7 @@ fn on_event(event: Event, core: Core, next: Frame, seen: Seen) -> Acted
     }
 }
 
-pub(crate) fn on_level(core: Core, bit: bool, seen: Seen) -> Acted
+pub(crate) fn on_level(mut core: Core, bit: bool, seen: Seen) -> Acted
     ensures { λ r. ⌜ r ≡ onLevel core bit seen ⌝ }
 {
     let regs = core.regs;
@@ -283,7 +291,8 @@ pub(crate) fn on_level(core: Core, bit: bool, seen: Seen) -> Acted
     let moved = frame::level(core.frame, bit, view);
     let next = moved.frame;
     let event = moved.event;
-    on_event(event, core.with_idle(false), next, seen)
+    core.idle = false;
+    on_event(event, core, next, seen)
 }
 
 // What the unit drives in the next slot: "0, 1 (released) or 2 (start)". "With MARQ set and idle as the latest slot,

@@ -1,7 +1,7 @@
 // The state of a unit, and what passes between its parts.
 ghost use mathlib.Core.Path.{_≡_};
 ghost use Rattle.unit.specs.Endings.{acted};
-ghost use Rattle.unit.specs.Set.{acted·core, core·frame, core·idle, core·regs};
+ghost use Rattle.unit.specs.Set.{core·regs};
 ghost use Rattle.unit.specs.State.{ownByte, resetCore, resetRegisters, statusByte, takesPart, viewOf};
 use frame::place::Frame;
 use frame::place::View;
@@ -172,33 +172,10 @@ impl Core {
         self
     }
 
-    pub(crate) fn with_frame(mut self, frame: Frame) -> Core
-        ensures { λ r. ⌜ r ≡ core·frame frame self ⌝ }
-    {
-        self.frame = frame;
-        self
-    }
-
-    pub(crate) fn with_idle(mut self, idle: bool) -> Core
-        ensures { λ r. ⌜ r ≡ core·idle idle self ⌝ }
-    {
-        self.idle = idle;
-        self
-    }
-
     // With something to be done to the buffers.
     pub(crate) fn acting(self, act: Act) -> Acted
         ensures { λ r. ⌜ r ≡ acted act self ⌝ }
     {
         Acted { core: self, act }
-    }
-}
-
-impl Acted {
-    pub(crate) fn with_core(mut self, core: Core) -> Acted
-        ensures { λ r. ⌜ r ≡ acted·core core self ⌝ }
-    {
-        self.core = core;
-        self
     }
 }

@@ -10,5 +10,4 @@ length-drawn-spec =
     (tie.spec
     (λ c κs. search needs)
     (λ c κs. search needs)
-    (λ c κs. search needs)
-    (λ c. simp (c .acting .ensures, c .before .with-frame .ensures, c .before .before .with-length .ensures)))
+    (λ c. simp (c .acting .ensures, c .before .with-length .ensures)))

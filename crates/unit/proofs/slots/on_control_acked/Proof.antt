@@ -19,14 +19,12 @@ on-control-acked-spec =
     ))
     (λ c κs. search needs)
     (λ c κs. search needs)
-    (λ c κs. search needs)
     (λ c. simp (
       c .acting .ensures,
-      c .before .with-frame .ensures,
-      c .before .before .with-length .ensures,
-      c .before .before .before .if2 .taken,
-      c .before .before .before .before .if1 .left,
-      ← c .before .before .before .before .before .draws-bytes .ensures,
+      c .before .with-length .ensures,
+      c .before .before .if2 .taken,
+      c .before .before .before .if1 .left,
+      ← c .before .before .before .before .draws-bytes .ensures,
     ))
     (λ c κs. search needs)
     (λ c. simp (

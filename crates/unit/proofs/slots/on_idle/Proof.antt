@@ -9,6 +9,4 @@ on-idle-spec =
     tie.close
     (tie.spec
     (λ c κs. search needs)
-    (λ c κs. search needs)
-    (λ c κs. search needs)
-    (λ c. simp (c .with-core .ensures, c .before .with-idle .ensures, c .before .before .before .cut .ensures)))
+    (λ c. simp (c .before .cut .ensures)))

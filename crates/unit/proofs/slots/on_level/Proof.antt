@@ -11,10 +11,8 @@ on-level-spec =
     (λ c κs. search needs)
     (λ c κs. search needs)
     (λ c κs. search needs)
-    (λ c κs. search needs)
     (λ c. simp (
       c .on-event .ensures,
-      c .before .with-idle .ensures,
-      c .before .before .before .level .ensures,
-      c .before .before .before .before .view .ensures,
+      c .before .before .level .ensures,
+      c .before .before .before .view .ensures,
     )))

@@ -11,14 +11,8 @@ on-start-spec =
     (λ c κs. search needs)
     (λ c κs. search needs)
     (λ c κs. search needs)
-    (λ c κs. search needs)
-    (λ c κs. search needs)
-    (λ c κs. search needs)
     (λ c. simp (
-      c .with-core .ensures,
-      c .before .with-idle .ensures,
-      c .before .before .with-frame .ensures,
-      c .before .before .before .begun .ensures,
-      c .before .before .before .before .takes-part .ensures,
-      c .before .before .before .before .before .before .before .cut .ensures,
+      c .begun .ensures,
+      c .before .takes-part .ensures,
+      c .before .before .before .before .cut .ensures,
     )))
