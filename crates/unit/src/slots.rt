@@ -1,10 +1,9 @@
 // What a slot does to the scalars of a unit, and to its buffers.
 ghost use mathlib.Core.Path.{_≡_};
-ghost use Rattle.frame.specs.Set.{frame·byte};
 ghost use Rattle.unit.specs.Slots.{byteDrawn, coreDrive, countOf, counted, headerOf, lastAcked, lengthDrawn};
 ghost use Rattle.unit.specs.Slots.{nextDrawn, onAddressed, onByteAcked, onControlAcked, onEvent, onIdle};
 ghost use Rattle.unit.specs.Slots.{onLengthAcked, onLevel, onLost, onStart, otherParty, receptionBegun};
-ghost use Rattle.unit.specs.Slots.{sendingBegun, wanted, withByte, withCode, withCount};
+ghost use Rattle.unit.specs.Slots.{sendingBegun, wanted, withCode, withCount};
 use crate::endings::cut;
 use crate::endings::draws_bytes;
 use crate::endings::ended;
@@ -130,20 +129,15 @@ fn data_wanted(frame: Frame, seen: Seen) -> bool
     (seen.waiting <= 1) & !(frame.length <= frame.acked % 512 + 1)
 }
 
-fn with_byte(mut core: Core, byte: u8) -> Core
-    ensures { λ r. ⌜ r ≡ withByte core byte ⌝ }
-{
-    core.frame.byte = byte;
-    core
-}
-
-fn byte_drawn(core: Core, seen: Seen) -> Acted
+fn byte_drawn(mut core: Core, seen: Seen) -> Acted
     ensures { λ r. ⌜ r ≡ byteDrawn core seen ⌝ }
 {
-    if data_wanted(core.frame, seen) {
-        return with_code(with_byte(core, seen.front), CODE_WANTED).acting(Act::Take);
+    let wanted = data_wanted(core.frame, seen);
+    core.frame.byte = seen.front;
+    if wanted {
+        return with_code(core, CODE_WANTED).acting(Act::Take);
     }
-    with_byte(core, seen.front).acting(Act::Take)
+    core.acting(Act::Take)
 }
 
 fn other_party(frame: Frame) -> u16
@@ -203,7 +197,7 @@ fn reception_begun(core: Core) -> Acted
 }
 
 // The first data field begins.
-fn on_length_acked(core: Core, seen: Seen) -> Acted
+fn on_length_acked(mut core: Core, seen: Seen) -> Acted
     ensures { λ r. ⌜ r ≡ onLengthAcked core seen ⌝ }
 {
     let frame = core.frame;
@@ -212,7 +206,9 @@ fn on_length_acked(core: Core, seen: Seen) -> Acted
     }
     if frame.sends {
         let regs = core.regs;
-        return with_byte(core, regs.own_byte(frame.control, seen.clear)).acting(Act::Nothing);
+        let byte = regs.own_byte(frame.control, seen.clear);
+        core.frame.byte = byte;
+        return core.acting(Act::Nothing);
     }
     reception_begun(core)
 }

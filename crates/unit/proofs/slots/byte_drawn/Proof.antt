@@ -11,19 +11,15 @@ byte-drawn-spec =
     (λ c κs. search needs)
     (λ c κs. search needs)
     (λ c κs. search needs)
-    (λ c κs. search needs)
     (λ c. simp (
       c .acting .ensures,
       c .before .with-code .ensures,
-      c .before .before .with-byte .ensures,
-      c .before .before .before .if1 .taken,
+      c .before .before .if1 .taken,
       ← c .before .before .before .before .data-wanted .ensures,
     ))
     (λ c κs. search needs)
-    (λ c κs. search needs)
     (λ c. simp (
       c .acting2 .ensures,
-      c .before .with-byte2 .ensures,
-      c .before .before .if1 .left,
+      c .before .if1 .left,
       ← c .before .before .before .data-wanted .ensures,
     )))

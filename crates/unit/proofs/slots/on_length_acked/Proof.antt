@@ -13,10 +13,8 @@ on-length-acked-spec =
     (λ c. simp (c .byte-drawn .ensures, c .before .if1 .taken, ← c .before .before .draws-bytes .ensures))
     (λ c κs. search needs)
     (λ c κs. search needs)
-    (λ c κs. search needs)
     (λ c. simp (
       c .acting .ensures,
-      c .before .with-byte .ensures,
       ← c .before .before .own-byte .ensures,
       c .before .before .before .before .if2 .taken,
       c .before .before .before .before .before .if1 .left,
