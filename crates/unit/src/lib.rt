@@ -3,6 +3,7 @@
 pub mod answer;
 pub mod buffers;
 mod endings;
+mod host;
 mod registers;
 mod slots;
 pub mod state;
