@@ -1,7 +1,7 @@
 -- A level that overrules what the unit drives as master, in two steps: the end of its request first, then the field,
 -- which a loser goes through as a receiver.
 use Prim.Native.Nat.{ℕ}
-use mathlib.Core.Bool.{Bool, true, false, not, _&&_}
+use mathlib.Core.Bool.{Bool, true, false, not, _&&_, and-false, and-true}
 use mathlib.Core.Path.{_≡_, refl, sym, subst}
 use lib.Dec.{T}
 use Rattle.line.specs.Choice.{pick}
@@ -14,14 +14,6 @@ use Rattle.frame.specs.declared.place.Frame.{Frame}
 use Rattle.frame.specs.declared.place.Event.the-variants.{Aborted, Lost}
 use Rattle.frame.specs.declared.place.Moved.{Moved}
 use Rattle.frame.specs.declared.place.View.{View}
-
-and-true : (b : Bool) → (b && true) ≡ b
-and-true true = refl
-and-true false = refl
-
-and-false : (b : Bool) → (b && false) ≡ false
-and-false true = refl
-and-false false = refl
 
 -- the lead is taken away by a loss alone
 pub lead-after : (f : Frame) (lost : Bool) → frame·leads (f .leads && not lost) f ≡ pick lost (lostOf f) f

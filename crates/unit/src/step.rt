@@ -14,6 +14,7 @@ use crate::buffers::Tbf;
 use crate::buffers::rbf_after;
 use crate::buffers::tbf_after;
 use crate::buffers::tbf_front;
+use crate::plain::plain;
 use crate::slots::core_drive;
 use crate::slots::on_idle;
 use crate::slots::on_level;
@@ -27,6 +28,7 @@ use line::numbers::KIND_SLOT;
 use line::numbers::RBF_BYTES;
 use line::numbers::REFUSED_LEVEL;
 use line::numbers::REFUSED_STRAY_BIT;
+use line::numbers::SLOT_HIGH;
 use line::numbers::TBF_BYTES;
 use line::slot::Slot;
 use line::slot::slot_of;
@@ -154,7 +156,10 @@ impl Lent {
             Slot::Level(bit) => on_level(core, bit, self.seen(tbf)),
             Slot::Start => on_start(core, stored.is_empty(RBF_BYTES)),
             Slot::Idle => on_idle(core),
-            Slot::Stray => core.acting(Act::Nothing),
+            Slot::Stray => Acted {
+                core,
+                act: Act::Nothing,
+            },
         }
     }
 
@@ -182,6 +187,10 @@ impl Lent {
     pub fn step(self, word: u32, tbf: &mut [u8; TBF_BYTES], rbf: &mut [u8; RBF_BYTES]) -> Answered
         ensures { λ r. ⌜ Runs self word (now (tbf .entry)) (now (tbf .exit)) (now (rbf .entry)) (now (rbf .exit)) r ⌝ }
     {
+        let core = self.core;
+        if (word <= SLOT_HIGH) & plain(core.frame) {
+            return self.plainly(word == SLOT_HIGH);
+        }
         let after = self.word(word, tbf, rbf);
         let lent = after.lent;
         let outcome = after.outcome;

@@ -1,5 +1,7 @@
-use mathlib.Core.Path.{ap, _∙_}
-use Rattle.unit.specs.Both.{Both, answerTo}
+use mathlib.Core.Path.{refl, sym, ap, _∙_}
+use Rattle.line.proofs.Either.{both}
+use Rattle.unit.proofs.Listening.{plain-word}
+use Rattle.unit.specs.Both.{Both, answerTo, stateIn}
 use borrow.Author.Needs.{needs}
 use Rattle.unit.proofs.step.Lent.step.Statement.{statement}
 use Rattle.unit.proofs.step.Lent.step.Tie as tie
@@ -8,6 +10,18 @@ pub step-spec : {M : Type 1} → statement M
 step-spec =
     tie.close
     (tie.spec
+    (λ c κs. search needs)
+    (λ c κs. search needs)
+    (λ c. let a = c .before .before .before .before .args in
+    let tests = both _ _ (c .before .if1 .taken) in
+    let word = plain-word (stateIn (a .self) (a .tbf .now) (a .rbf .now)) (a .word) (tests .0)
+    (sym (c .before .before .plain .ensures) ∙ tests .1) in
+    record {
+      tbf-kept = refl;
+      rbf-kept = refl;
+      state = λ ft fr. rw (c .plainly .ensures) (ap (λ (b : Both). b .state) word);
+      answer = λ ft fr. rw (c .plainly .ensures) (ap (λ (b : Both). b .answer) word);
+    })
     (λ c κs. search needs)
     (λ c κs. search needs)
     (λ c κs. search needs)
