@@ -198,7 +198,7 @@ impl Frame {
     }
 
     // One bit of a field is taken in.
-    pub(crate) fn shifted(mut self, field: Field, n: u8, bit: bool) -> Frame
+    pub fn shifted(mut self, field: Field, n: u8, bit: bool) -> Frame
         ensures { λ r. ⌜ r ≡ shiftedOf self field n bit ⌝ }
     {
         let bits = shift_in(self.shift, bit);

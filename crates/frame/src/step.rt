@@ -1,7 +1,8 @@
 // One level of a frame: the field that it falls in, unless it overrules what the unit drives as master.
 ghost use mathlib.Core.Path.{_≡_};
+ghost use Rattle.line.specs.Choice.{pick};
 ghost use Rattle.frame.specs.Masters.{clashOf, contestedOf, lostOf, ownBit};
-ghost use Rattle.frame.specs.Step.{atField, inField, levelOf, overruledOf};
+ghost use Rattle.frame.specs.Step.{atField, inField, levelOf};
 use crate::driving::drive;
 use crate::header::at_broadcast;
 use crate::header::at_control;
@@ -65,39 +66,43 @@ fn clash(frame: Frame, field: Field, n: u8, bit: bool, view: View) -> bool
     frame.leads & own_bit(frame, field, n) & drive(frame, view) & !bit
 }
 
-// "The unit goes on as a receiver of that frame."
-fn without_lead(mut frame: Frame) -> Frame
-    ensures { λ r. ⌜ r ≡ lostOf frame ⌝ }
+// "The unit goes on as a receiver of that frame" where it lost.
+fn led(mut frame: Frame, lost: bool) -> Frame
+    ensures { λ r. ⌜ r ≡ pick lost (lostOf frame) frame ⌝ }
 {
-    frame.leads = false;
+    frame.leads = frame.leads & !lost;
     frame
 }
 
-// What the master drove was overruled: a loss, after which it receives, or the end of its request.
-fn overruled(frame: Frame, field: Field, n: u8, bit: bool, view: View) -> Moved
-    ensures { λ r. ⌜ r ≡ overruledOf frame field n bit view ⌝ }
+// A loss is told, whatever else the level brought about.
+fn told(event: Event, lost: bool) -> Event
+    ensures { λ r. ⌜ r ≡ pick lost Event.Lost event ⌝ }
 {
-    if contested(field, n) {
-        let receiver = at_field(without_lead(frame), field, n, bit, view);
-        let goes_on = receiver.frame;
-        return Moved {
-            frame: goes_on,
-            event: Event::Lost,
-        };
+    if lost {
+        return Event::Lost;
     }
-    Moved {
-        frame: frame.done(),
-        event: Event::Aborted,
-    }
+    event
 }
 
+// What the master drove may be overruled: a loss, after which it receives, or the end of its request. The field is
+// gone through at one place, by a loser too: a second copy of all that a field decides would cost more than the rest.
 fn in_field(frame: Frame, field: Field, n: u8, bit: bool, view: View) -> Moved
     ensures { λ r. ⌜ r ≡ inField frame field n bit view ⌝ }
 {
-    if clash(frame, field, n, bit, view) {
-        return overruled(frame, field, n, bit, view);
+    let overruled = clash(frame, field, n, bit, view);
+    if overruled & !contested(field, n) {
+        return Moved {
+            frame: frame.done(),
+            event: Event::Aborted,
+        };
     }
-    at_field(frame, field, n, bit, view)
+    let moved = at_field(led(frame, overruled), field, n, bit, view);
+    let next = moved.frame;
+    let event = moved.event;
+    Moved {
+        frame: next,
+        event: told(event, overruled),
+    }
 }
 
 // One level of the frame under way; while the unit waits for a start, nothing.

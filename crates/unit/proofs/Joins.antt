@@ -1,46 +1,44 @@
 -- How the answers that the functions of a unit give make up what the definitions say of a word, over any state.
 use Prim.Native.Nat.{ℕ, _/_, _%_}
-use mathlib.Core.Bool.{Bool, true, false, _&&_}
-use mathlib.Core.Path.{_≡_, refl, ap, sym}
-use lib.Dec.{eqb}
+use mathlib.Core.Bool.{true, false, _&&_}
+use mathlib.Core.Logic.{⊎-elim}
+use mathlib.Core.Path.{_≡_, refl, sym, subst}
+use lib.Dec.{T, eqb}
 use lib.ListN.{drop, getD, length}
-use Rattle.line.specs.Choice.{pick}
-use Rattle.line.specs.Numbers.{kindSlot, kindRead, kindWrite, refusedKind, refusedLevel, refusedStrayBit, tbfBytes}
+use Rattle.line.specs.Numbers.{kindSlot, kindRead, kindWrite, refusedKind, refusedStrayBit, tbfBytes}
 use Rattle.line.specs.Slot.{classOf, kindOf, slotOf}
+use Rattle.line.specs.declared.slot.Slot.{Slot}
 use Rattle.line.specs.declared.slot.Slot.the-variants.{Level, Start, Idle, Stray}
-use Rattle.unit.specs.declared.state.Core.{Core}
-use Rattle.unit.specs.Both.{Both, afterDone, afterHost, afterRead, afterSlot, afterTold, afterWrite, gaveIn}
-use Rattle.unit.specs.Both.{refusedIn, takenIn, writtenIn}
+use Rattle.line.proofs.Either.{either}
+use Rattle.unit.specs.Both.{afterDone, afterHost, afterRead, afterSlot, afterTold, afterWord, afterWrite}
+use Rattle.unit.specs.Both.{gaveIn, refusedIn, slotActed, slotRefusal, takenIn, writtenIn}
 use Rattle.unit.specs.Registers.{gave, readRefusal, readTold, readValue, registerOf, toldOf, valueOf, writeDone}
 use Rattle.unit.specs.Registers.{writeRefusal, writeTold, written}
 use Rattle.unit.specs.Set.{core·regs}
-use Rattle.unit.specs.Slots.{onIdle, onLevel, onStart}
-use Rattle.unit.specs.State.{State, isEmpty, pushOf, reset, seenOf}
+use Rattle.unit.specs.State.{State, isEmpty, pushOf, reset}
 use Rattle.unit.specs.Step.{actedOn, answerOf, clashes, slotOn, slotSaid, stepOf}
 
 -- ---- slots
 
-pub level-refused : (s : State) (bit : Bool) → clashes s bit ≡ true
-    → refusedIn s refusedLevel ≡ afterSlot s (Level bit)
-unfolding slotOn slotSaid
-level-refused s bit clash = simp clash
+pub slot-refused : (s : State) (c : Slot) → eqb (slotRefusal s c) 0 ≡ false
+    → refusedIn s (slotRefusal s c) ≡ afterSlot s c
+unfolding slotOn slotSaid slotRefusal
+slot-refused s (Level bit) some =
+    ⊎-elim (λ (clash : clashes s bit ≡ true). simp clash) (λ (free : clashes s bit ≡ false). absurd (subst T (simp free at some) tt))
+    (either (clashes s bit))
+slot-refused s Start some = absurd (subst T some tt)
+slot-refused s Idle some = absurd (subst T some tt)
+slot-refused s Stray some = refl
 
-pub level-taken : (s : State) (bit : Bool) → clashes s bit ≡ false
-    → takenIn (actedOn s (onLevel (s .core) bit (seenOf (s .tbf) (s .rbf)))) ≡ afterSlot s (Level bit)
-unfolding slotOn slotSaid
-level-taken s bit clash = simp clash
-
-pub start-taken : (s : State) → takenIn (actedOn s (onStart (s .core) (isEmpty (s .rbf)))) ≡ afterSlot s Start
-unfolding slotOn slotSaid
-start-taken s = refl
-
-pub idle-taken : (s : State) → takenIn (actedOn s (onIdle (s .core))) ≡ afterSlot s Idle
-unfolding slotOn slotSaid
-idle-taken s = refl
-
-pub stray-refused : (s : State) → refusedIn s refusedStrayBit ≡ afterSlot s Stray
-unfolding slotOn slotSaid
-stray-refused s = refl
+pub slot-taken : (s : State) (c : Slot) → eqb (slotRefusal s c) 0 ≡ true
+    → takenIn (actedOn s (slotActed s c)) ≡ afterSlot s c
+unfolding slotOn slotSaid slotRefusal slotActed
+slot-taken s (Level bit) none =
+    ⊎-elim (λ (clash : clashes s bit ≡ true). absurd (subst T (sym (simp clash at none)) tt))
+    (λ (free : clashes s bit ≡ false). simp free) (either (clashes s bit))
+slot-taken s Start none = refl
+slot-taken s Idle none = refl
+slot-taken s Stray none = absurd (subst T (sym none) tt)
 
 -- ---- writes
 
@@ -120,9 +118,6 @@ pub told-refused : (s : State) (w : ℕ) → eqb (kindOf w) kindWrite ≡ false 
     → refusedIn s refusedKind ≡ afterHost s w
 unfolding toldOf
 told-refused s w one two = simp (one, two)
-
-abbrev pub afterWord : State → ℕ → Both
-afterWord s w = record { state = stepOf s w; answer = answerOf s w }
 
 pub step-slot : (s : State) (w : ℕ) → eqb (kindOf w) kindSlot ≡ true → afterSlot s (slotOf w) ≡ afterWord s w
 unfolding stepOf answerOf classOf

@@ -3,6 +3,7 @@ pub mod Circle
 pub mod Joins
 pub mod Answers
 pub mod Calm
+pub mod Listening
 pub mod Strangers
 pub mod Protects
 pub mod Ruled

@@ -5,19 +5,28 @@ use mathlib.Core.Bool.{Bool}
 use mathlib.Core.List.{List}
 use mathlib.Core.Path.{_≡_}
 use lib.ListN.{drop, getD, length}
-use Rattle.line.specs.Numbers.{rbfBytes, tbfBytes}
+use Rattle.line.specs.Choice.{pick}
+use Rattle.line.specs.Numbers.{rbfBytes, refusedLevel, refusedStrayBit, tbfBytes}
 use Rattle.line.specs.declared.slot.Slot.{Slot}
+use Rattle.line.specs.declared.slot.Slot.the-variants.{Level, Start, Idle, Stray}
 use Rattle.unit.specs.declared.answer.Answer.{Answer}
 use Rattle.unit.specs.declared.answer.Answer.the-variants.{Given, Refused}
+use Rattle.unit.specs.declared.answer.Outcome.{Outcome}
+use Rattle.unit.specs.declared.answer.Outcome.the-variants.{Taken as took, Written as wrote, Read as read}
+use Rattle.unit.specs.declared.answer.Outcome.the-variants.{Refused as denied}
 use Rattle.unit.specs.declared.answer.Reply.the-variants.{Taken, Written, Read}
+use Rattle.unit.specs.declared.state.Act.the-variants.{Nothing}
 use Rattle.unit.specs.declared.state.Acted.{Acted}
 use Rattle.unit.specs.declared.state.Seen.{Seen}
 use Rattle.unit.specs.declared.step.Answered.{Answered}
+use Rattle.unit.specs.declared.step.Done.{Done}
 use Rattle.unit.specs.declared.step.Lent.{Lent}
 use Rattle.unit.specs.declared.step.Unit.{Unit}
+use Rattle.unit.specs.Endings.{acted}
 use Rattle.unit.specs.Queue.{circleOf, tbfOf, rbfOf}
 use Rattle.unit.specs.Registers.{Told, toldOf, readTold, writeDone, writeTold}
-use Rattle.unit.specs.State.{State, reset, seenOf}
+use Rattle.unit.specs.Slots.{onIdle, onLevel, onStart}
+use Rattle.unit.specs.State.{State, isEmpty, reset, seenOf}
 use Rattle.unit.specs.Step.{actedOn, answerOf, clashes, nextDrive, slotOn, slotSaid, stepOf, toldOn, toldSaid}
 
 -- a unit whose buffers are lent: the bytes of TBF and of RBF
@@ -34,8 +43,19 @@ pub record Both : Type 0 where
   pub state : State
   pub answer : Answer
 
-abbrev pub bothIn : Answered → List ℕ → List ℕ → Both
-bothIn a t r = record { state = stateIn (a .lent) t r; answer = a .answer }
+-- what a word came to, with what the unit then drives
+abbrev pub answerTo : Outcome → ℕ → Answer
+answerTo took drive = Given (Taken drive)
+answerTo wrote drive = Given (Written drive)
+answerTo (read value) drive = Given (Read value drive)
+answerTo (denied number) drive = Refused number
+
+abbrev pub done : Lent → Outcome → Done
+done u outcome = record { lent = u; outcome = outcome }
+
+abbrev pub bothIn : Done → List ℕ → List ℕ → Both
+bothIn d t r =
+    let s = stateIn (d .lent) t r in record { state = s; answer = answerTo (d .outcome) (nextDrive s) }
 
 abbrev pub refusedIn : State → ℕ → Both
 refusedIn s number = record { state = s; answer = Refused number }
@@ -67,8 +87,22 @@ afterRead s register = afterTold s (readTold (s .core .regs) (s .tbf) (s .rbf) r
 abbrev pub afterHost : State → ℕ → Both
 afterHost s word = afterTold s (toldOf (s .core .regs) (s .tbf) (s .rbf) word)
 
-abbrev pub answered : Lent → Answer → Answered
-answered u a = record { lent = u; answer = a }
+abbrev pub afterWord : State → ℕ → Both
+afterWord s w = record { state = stepOf s w; answer = answerOf s w }
+
+-- ---- a slot in two steps: the number by which it is refused, or 0, and what it does
+
+unfoldable pub slotRefusal : State → Slot → ℕ
+slotRefusal s (Level bit) = pick (clashes s bit) refusedLevel 0
+slotRefusal s Start = 0
+slotRefusal s Idle = 0
+slotRefusal s Stray = refusedStrayBit
+
+unfoldable pub slotActed : State → Slot → Acted
+slotActed s (Level bit) = onLevel (s .core) bit (seenOf (s .tbf) (s .rbf))
+slotActed s Start = onStart (s .core) (isEmpty (s .rbf))
+slotActed s Idle = onIdle (s .core)
+slotActed s Stray = acted Nothing (s .core)
 
 -- ---- what the functions of a unit whose buffers are lent promise, over any bytes that they are not lent
 
@@ -84,39 +118,36 @@ Sees u t seen = (r : List ℕ) → seen ≡ seenOf (circleOf tbfBytes t (u .tbf)
 abbrev pub Clashes : Lent → Bool → Bool → Type 0
 Clashes u bit clash = (t r : List ℕ) → clash ≡ clashes (stateIn u t r) bit
 
-abbrev pub Takes : Lent → Answered → Type 0
-Takes u a = (t r : List ℕ) → bothIn a t r ≡ takenIn (stateIn u t r)
+abbrev pub SlotRefuses : Lent → Slot → ℕ → Type 0
+SlotRefuses u c number = (t r : List ℕ) → number ≡ slotRefusal (stateIn u t r) c
 
-abbrev pub Writes : Lent → Answered → Type 0
-Writes u a = (t r : List ℕ) → bothIn a t r ≡ writtenIn (stateIn u t r)
-
-abbrev pub Gives : Lent → ℕ → Answered → Type 0
-Gives u value a = (t r : List ℕ) → bothIn a t r ≡ gaveIn (stateIn u t r) value
+abbrev pub SlotActs : Lent → Slot → List ℕ → Acted → Type 0
+SlotActs u c t acted = (r : List ℕ) → acted ≡ slotActed (stateIn u t r) c
 
 -- RBF before and after: where it is lent with all its bytes, and none is lost or added
-abbrev pub Acts : Lent → Acted → List ℕ → List ℕ → Answered → Type 0
-Acts u acted r r' a =
+abbrev pub Acts : Lent → Acted → List ℕ → List ℕ → Done → Type 0
+Acts u acted r r' d =
     (length r' ≡ length r)
-    × ((t : List ℕ) → length r ≡ rbfBytes → bothIn a t r' ≡ takenIn (actedOn (stateIn u t r) acted))
+    × ((t : List ℕ) → length r ≡ rbfBytes → bothIn d t r' ≡ takenIn (actedOn (stateIn u t r) acted))
 
-abbrev pub SlotsOn : Lent → Slot → List ℕ → List ℕ → List ℕ → Answered → Type 0
-SlotsOn u c t r r' a =
-    (length r' ≡ length r) × (length r ≡ rbfBytes → bothIn a t r' ≡ afterSlot (stateIn u t r) c)
+abbrev pub SlotsOn : Lent → Slot → List ℕ → List ℕ → List ℕ → Done → Type 0
+SlotsOn u c t r r' d =
+    (length r' ≡ length r) × (length r ≡ rbfBytes → bothIn d t r' ≡ afterSlot (stateIn u t r) c)
 
 -- TBF before and after
-abbrev pub Does : Lent → ℕ → ℕ → List ℕ → List ℕ → Answered → Type 0
-Does u register v t t' a =
+abbrev pub Does : Lent → ℕ → ℕ → List ℕ → List ℕ → Done → Type 0
+Does u register v t t' d =
     (length t' ≡ length t)
-    × ((r : List ℕ) → length t ≡ tbfBytes → bothIn a t' r ≡ afterDone (stateIn u t r) register v)
+    × ((r : List ℕ) → length t ≡ tbfBytes → bothIn d t' r ≡ afterDone (stateIn u t r) register v)
 
-abbrev pub WritesTo : Lent → ℕ → ℕ → List ℕ → List ℕ → Answered → Type 0
-WritesTo u register v t t' a =
+abbrev pub WritesTo : Lent → ℕ → ℕ → List ℕ → List ℕ → Done → Type 0
+WritesTo u register v t t' d =
     (length t' ≡ length t)
-    × ((r : List ℕ) → length t ≡ tbfBytes → bothIn a t' r ≡ afterWrite (stateIn u t r) register v)
+    × ((r : List ℕ) → length t ≡ tbfBytes → bothIn d t' r ≡ afterWrite (stateIn u t r) register v)
 
-abbrev pub TakesOut : Lent → List ℕ → Answered → Type 0
-TakesOut u r a =
-    (t : List ℕ) → bothIn a t r
+abbrev pub TakesOut : Lent → List ℕ → Done → Type 0
+TakesOut u r d =
+    (t : List ℕ) → bothIn d t r
     ≡ gaveIn (record {
       core = u .core;
       tbf = circleOf tbfBytes t (u .tbf);
@@ -125,14 +156,19 @@ TakesOut u r a =
     })
     (getD (circleOf rbfBytes r (u .rbf)) 0 0)
 
-abbrev pub ReadsFrom : Lent → ℕ → List ℕ → Answered → Type 0
-ReadsFrom u register r a = (t : List ℕ) → bothIn a t r ≡ afterRead (stateIn u t r) register
+abbrev pub ReadsFrom : Lent → ℕ → List ℕ → Done → Type 0
+ReadsFrom u register r d = (t : List ℕ) → bothIn d t r ≡ afterRead (stateIn u t r) register
 
-abbrev pub Tells : Lent → ℕ → List ℕ → List ℕ → List ℕ → Answered → Type 0
-Tells u word t t' r a =
-    (length t' ≡ length t) × (length t ≡ tbfBytes → bothIn a t' r ≡ afterHost (stateIn u t r) word)
+abbrev pub Tells : Lent → ℕ → List ℕ → List ℕ → List ℕ → Done → Type 0
+Tells u word t t' r d =
+    (length t' ≡ length t) × (length t ≡ tbfBytes → bothIn d t' r ≡ afterHost (stateIn u t r) word)
 
 -- ---- a word
+
+abbrev pub Works : Lent → ℕ → List ℕ → List ℕ → List ℕ → List ℕ → Done → Type 0
+Works u w t t' r r' d =
+    (length t' ≡ length t) × (length r' ≡ length r)
+    × (length t ≡ tbfBytes → length r ≡ rbfBytes → bothIn d t' r' ≡ afterWord (stateIn u t r) w)
 
 -- the buffers after it have as many bytes as before; and where they are lent with all their bytes, state and answer
 -- are those of the definitions

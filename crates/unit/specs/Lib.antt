@@ -10,4 +10,5 @@ pub mod Refusals
 pub mod Machine
 pub mod Queue
 pub mod Both
+pub mod Plain
 pub mod Cases

@@ -3,6 +3,8 @@
 pub mod answer;
 pub mod buffers;
 mod endings;
+mod host;
+mod plain;
 mod registers;
 mod slots;
 pub mod state;

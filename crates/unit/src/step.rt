@@ -1,43 +1,34 @@
 // A unit, and what it makes of every word: its scalars by value and its buffers lent, or all of it by value.
 ghost use mathlib.Core.Path.{_≡_};
-ghost use Rattle.unit.specs.Both.{Acts, Clashes, Does, Drives, Fresh, Gives, ReadsFrom, Runs, Sees, SlotsOn};
-ghost use Rattle.unit.specs.Both.{Takes, TakesOut, Tells, Writes, WritesTo, answered, stateOf};
+ghost use Rattle.unit.specs.Both.{Acts, Clashes, Drives, Fresh, Runs, Sees, SlotActs, SlotRefuses, SlotsOn};
+ghost use Rattle.unit.specs.Both.{Works, done, stateOf};
 ghost use Rattle.unit.specs.Refusals.{Ruled};
 ghost use Rattle.unit.specs.State.{reset};
 ghost use Rattle.unit.specs.Step.{answerOf, stepOf};
 use crate::answer::Answer;
-use crate::answer::Reply;
+use crate::answer::Outcome;
+use crate::answer::answer_to;
 use crate::buffers::Rbf;
 use crate::buffers::Span;
 use crate::buffers::Tbf;
 use crate::buffers::rbf_after;
-use crate::buffers::rbf_front;
 use crate::buffers::tbf_after;
 use crate::buffers::tbf_front;
-use crate::buffers::tbf_push;
-use crate::registers::read_refusal;
-use crate::registers::read_value;
-use crate::registers::write;
-use crate::registers::write_refusal;
+use crate::plain::plain;
 use crate::slots::core_drive;
 use crate::slots::on_idle;
 use crate::slots::on_level;
 use crate::slots::on_start;
+use crate::state::Act;
 use crate::state::Acted;
 use crate::state::Core;
 use crate::state::Seen;
-use line::numbers::CTR_RESET;
 use line::numbers::DRIVE_LOW;
-use line::numbers::KIND_READ;
 use line::numbers::KIND_SLOT;
-use line::numbers::KIND_WRITE;
 use line::numbers::RBF_BYTES;
-use line::numbers::REFUSED_KIND;
 use line::numbers::REFUSED_LEVEL;
 use line::numbers::REFUSED_STRAY_BIT;
-use line::numbers::REG_CTR;
-use line::numbers::REG_RBF;
-use line::numbers::REG_TBF;
+use line::numbers::SLOT_HIGH;
 use line::numbers::TBF_BYTES;
 use line::slot::Slot;
 use line::slot::slot_of;
@@ -53,6 +44,12 @@ pub struct Lent {
 pub struct Answered {
     pub lent: Lent,
     pub answer: Answer,
+}
+
+// What a word leaves of a unit whose buffers are lent, and what it came to.
+pub(crate) struct Done {
+    pub lent: Lent,
+    pub outcome: Outcome,
 }
 
 // A unit that holds its buffers.
@@ -101,47 +98,18 @@ impl Lent {
         }
     }
 
-    fn refused(self, number: u8) -> Answered
-        ensures { λ r. ⌜ r ≡ answered self (Answer.Refused number) ⌝ }
+    // A word has come to this; what the unit drives next is worked out once, where the answer is made.
+    pub(crate) fn done(self, outcome: Outcome) -> Done
+        ensures { λ r. ⌜ r ≡ done self outcome ⌝ }
     {
-        Answered {
+        Done {
             lent: self,
-            answer: Answer::Refused(number),
-        }
-    }
-
-    fn taken(self) -> Answered
-        ensures { λ r. ⌜ Takes self r ⌝ }
-    {
-        let drive = self.drive();
-        Answered {
-            lent: self,
-            answer: Answer::Given(Reply::Taken(drive)),
-        }
-    }
-
-    fn written(self) -> Answered
-        ensures { λ r. ⌜ Writes self r ⌝ }
-    {
-        let drive = self.drive();
-        Answered {
-            lent: self,
-            answer: Answer::Given(Reply::Written(drive)),
-        }
-    }
-
-    fn gave(self, value: u8) -> Answered
-        ensures { λ r. ⌜ Gives self value r ⌝ }
-    {
-        let drive = self.drive();
-        Answered {
-            lent: self,
-            answer: Answer::Given(Reply::Read(value, drive)),
+            outcome,
         }
     }
 
     // A slot is taken: what it did to the scalars, and what it does to the buffers.
-    fn acted_on(mut self, acted: Acted, rbf: &mut [u8; RBF_BYTES]) -> Answered
+    fn acted_on(mut self, acted: Acted, rbf: &mut [u8; RBF_BYTES]) -> Done
         ensures { λ r. ⌜ Acts self acted (now (rbf .entry)) (now (rbf .exit)) r ⌝ }
     {
         let core = acted.core;
@@ -151,7 +119,7 @@ impl Lent {
         self.core = core;
         self.tbf = sent;
         self.rbf = stored;
-        self.taken()
+        self.done(Outcome::Taken)
     }
 
     // Number 5: "level 1 while the unit drives 0".
@@ -161,120 +129,76 @@ impl Lent {
         bit & (self.drive() == DRIVE_LOW)
     }
 
-    fn level(self, bit: bool, tbf: &[u8; TBF_BYTES], rbf: &mut [u8; RBF_BYTES]) -> Answered
-        ensures { λ r. ⌜ SlotsOn self (Slot.Level bit) (now (tbf .entry)) (now (rbf .entry)) (now (rbf .exit)) r ⌝ }
+    // The number by which a slot word is refused, or 0.
+    fn slot_refusal(self, slot: Slot) -> u8
+        ensures { λ r. ⌜ SlotRefuses self slot r ⌝ }
     {
-        if self.clash(bit) {
-            return self.refused(REFUSED_LEVEL);
+        match slot {
+            Slot::Level(bit) => {
+                if self.clash(bit) {
+                    return REFUSED_LEVEL;
+                }
+                0
+            }
+            Slot::Start => 0,
+            Slot::Idle => 0,
+            Slot::Stray => REFUSED_STRAY_BIT,
         }
-        let seen = self.seen(tbf);
-        self.acted_on(on_level(self.core, bit, seen), rbf)
     }
 
-    fn slot(self, slot: Slot, tbf: &[u8; TBF_BYTES], rbf: &mut [u8; RBF_BYTES]) -> Answered
-        ensures { λ r. ⌜ SlotsOn self slot (now (tbf .entry)) (now (rbf .entry)) (now (rbf .exit)) r ⌝ }
+    // What a slot does; a stray bit, which is refused, does nothing.
+    fn slot_acted(self, slot: Slot, tbf: &[u8; TBF_BYTES]) -> Acted
+        ensures { λ r. ⌜ SlotActs self slot (now (tbf .entry)) r ⌝ }
     {
         let stored = self.rbf;
         let core = self.core;
         match slot {
-            Slot::Level(bit) => self.level(bit, tbf, rbf),
-            Slot::Start => self.acted_on(on_start(core, stored.is_empty(RBF_BYTES)), rbf),
-            Slot::Idle => self.acted_on(on_idle(core), rbf),
-            Slot::Stray => self.refused(REFUSED_STRAY_BIT),
+            Slot::Level(bit) => on_level(core, bit, self.seen(tbf)),
+            Slot::Start => on_start(core, stored.is_empty(RBF_BYTES)),
+            Slot::Idle => on_idle(core),
+            Slot::Stray => Acted {
+                core,
+                act: Act::Nothing,
+            },
         }
     }
 
-    // An accepted write.
-    fn write_done(mut self, register: u8, v: u8, tbf: &mut [u8; TBF_BYTES]) -> Answered
-        ensures { λ r. ⌜ Does self register v (now (tbf .entry)) (now (tbf .exit)) r ⌝ }
+    fn slot(self, slot: Slot, tbf: &[u8; TBF_BYTES], rbf: &mut [u8; RBF_BYTES]) -> Done
+        ensures { λ r. ⌜ SlotsOn self slot (now (tbf .entry)) (now (rbf .entry)) (now (rbf .exit)) r ⌝ }
     {
-        let core = self.core;
-        if register == REG_TBF {
-            let sent = tbf_push(tbf, self.tbf, v);
-            self.tbf = sent;
-            return self.written();
-        }
-        if (register == REG_CTR) & (v == CTR_RESET) {
-            return Lent::reset().written();
-        }
-        let next = core.with_regs(write(core.regs, register, v));
-        self.core = next;
-        self.written()
-    }
-
-    fn write(self, register: u8, v: u8, tbf: &mut [u8; TBF_BYTES]) -> Answered
-        ensures { λ r. ⌜ WritesTo self register v (now (tbf .entry)) (now (tbf .exit)) r ⌝ }
-    {
-        let core = self.core;
-        let sent = self.tbf;
-        let number = write_refusal(core.regs, sent.len(TBF_BYTES), register, v);
+        let number = self.slot_refusal(slot);
         if number == 0 {
-            return self.write_done(register, v, tbf);
+            return self.acted_on(self.slot_acted(slot, tbf), rbf);
         }
-        self.refused(number)
+        self.done(Outcome::Refused(number))
     }
 
-    // The oldest byte of RBF is read, and leaves it.
-    fn read_rbf(mut self, rbf: &[u8; RBF_BYTES]) -> Answered
-        ensures { λ r. ⌜ TakesOut self (now (rbf .entry)) r ⌝ }
+    // The unit after a word, and what the word came to.
+    fn word(self, word: u32, tbf: &mut [u8; TBF_BYTES], rbf: &mut [u8; RBF_BYTES]) -> Done
+        ensures { λ r. ⌜ Works self word (now (tbf .entry)) (now (tbf .exit)) (now (rbf .entry)) (now (rbf .exit)) r ⌝ }
     {
-        let stored = self.rbf;
-        let byte = rbf_front(rbf, stored);
-        let rest = stored.popped(RBF_BYTES);
-        self.rbf = rest;
-        self.gave(byte)
-    }
-
-    fn read(self, register: u8, rbf: &[u8; RBF_BYTES]) -> Answered
-        ensures { λ r. ⌜ ReadsFrom self register (now (rbf .entry)) r ⌝ }
-    {
-        let core = self.core;
-        let sent = self.tbf;
-        let stored = self.rbf;
-        let number = read_refusal(register, stored.is_empty(RBF_BYTES));
-        if number == 0 {
-            if register == REG_RBF {
-                return self.read_rbf(rbf);
-            }
-            return self.gave(read_value(
-                core.regs,
-                sent.len(TBF_BYTES),
-                stored.len(RBF_BYTES),
-                register,
-            ));
+        if word / 0x1000_0000 == KIND_SLOT {
+            return self.slot(slot_of(word), tbf, rbf);
         }
-        self.refused(number)
-    }
-
-    // A word of the host's.
-    fn told(self, word: u32, tbf: &mut [u8; TBF_BYTES], rbf: &[u8; RBF_BYTES]) -> Answered
-        ensures { λ r. ⌜ Tells self word (now (tbf .entry)) (now (tbf .exit)) (now (rbf .entry)) r ⌝ }
-    {
-        let register = (word / 0x0100_0000 % 16) as u8;
-        let kind = word / 0x1000_0000;
-        if kind == KIND_WRITE {
-            if word / 256 % 65536 == 0 {
-                return self.write(register, (word % 256) as u8, tbf);
-            }
-            return self.refused(REFUSED_STRAY_BIT);
-        }
-        if kind == KIND_READ {
-            if word % 0x0100_0000 == 0 {
-                return self.read(register, rbf);
-            }
-            return self.refused(REFUSED_STRAY_BIT);
-        }
-        self.refused(REFUSED_KIND)
+        self.told(word, tbf, rbf)
     }
 
     // The unit after a word, and what it is answered; its buffers are lent.
     pub fn step(self, word: u32, tbf: &mut [u8; TBF_BYTES], rbf: &mut [u8; RBF_BYTES]) -> Answered
         ensures { λ r. ⌜ Runs self word (now (tbf .entry)) (now (tbf .exit)) (now (rbf .entry)) (now (rbf .exit)) r ⌝ }
     {
-        if word / 0x1000_0000 == KIND_SLOT {
-            return self.slot(slot_of(word), tbf, rbf);
+        let core = self.core;
+        if (word <= SLOT_HIGH) & plain(core.frame) {
+            return self.plainly(word == SLOT_HIGH);
         }
-        self.told(word, tbf, rbf)
+        let after = self.word(word, tbf, rbf);
+        let lent = after.lent;
+        let outcome = after.outcome;
+        let drive = lent.drive();
+        Answered {
+            lent,
+            answer: answer_to(outcome, drive),
+        }
     }
 }
 

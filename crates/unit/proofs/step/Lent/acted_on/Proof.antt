@@ -1,4 +1,4 @@
-use mathlib.Core.Path.{refl, _∙_}
+use mathlib.Core.Path.{refl}
 use borrow.Author.Needs.{needs}
 use Rattle.unit.proofs.step.Lent.acted_on.Statement.{statement}
 use Rattle.unit.proofs.step.Lent.acted_on.Tie as tie
@@ -12,7 +12,8 @@ acted-on-spec =
     (λ c κs. search needs)
     (λ c. (
       c .before .rbf-after .ensures .0,
-      λ t full. c .taken .ensures t _ ∙ rw (
+      λ t full. rw (
+        c .done .ensures,
         c .before .before .before .tbf-after .ensures t,
         c .before .rbf-after .ensures .1 full,
       ) refl,

@@ -26,8 +26,8 @@ read-spec =
     (λ c κs. search needs)
     (λ c κs. search needs)
     (λ c t. let a = c .before .before .before .before .before .before .before .before .before .before .before .args in
-    c .gave .ensures t (a .rbf .now)
-    ∙ rw (
+    rw (
+      c .done .ensures,
       c .before .read-value .ensures,
       c .before .before .len2 .ensures (a .rbf .now),
       c .before .before .before .len .ensures t,
@@ -42,7 +42,7 @@ read-spec =
     (λ c κs. search needs)
     (λ c t. let a = c .before .before .before .before .before .before .before .args in
     rw (
-      c .refused .ensures,
+      c .done2 .ensures,
       c .before .before .read-refusal .ensures,
       c .before .before .before .is-empty .ensures (a .rbf .now),
     )

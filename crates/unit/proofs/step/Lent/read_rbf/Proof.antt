@@ -1,4 +1,4 @@
-use mathlib.Core.Path.{refl, _∙_}
+use mathlib.Core.Path.{refl}
 use borrow.Author.Needs.{needs}
 use Rattle.unit.proofs.step.Lent.read_rbf.Statement.{statement}
 use Rattle.unit.proofs.step.Lent.read_rbf.Tie as tie
@@ -11,5 +11,4 @@ read-rbf-spec =
     (λ c κs. search needs)
     (λ c κs. search needs)
     (λ c t. let a = c .before .before .before .before .args in
-    c .gave .ensures t (a .rbf .now)
-    ∙ rw (c .before .popped .ensures (a .rbf .now), c .before .before .rbf-front .ensures) refl))
+    rw (c .done .ensures, c .before .popped .ensures (a .rbf .now), c .before .before .rbf-front .ensures) refl))

@@ -1,5 +1,6 @@
+use borrow.Author.Tests.{eq-eqb, ne-eqb}
 use mathlib.Core.Path.{refl, _∙_}
-use Rattle.unit.proofs.Joins.{idle-taken, start-taken, stray-refused}
+use Rattle.unit.proofs.Joins.{slot-refused, slot-taken}
 use Rattle.unit.specs.Both.{stateIn}
 use borrow.Author.Needs.{needs}
 use Rattle.unit.proofs.step.Lent.slot.Statement.{statement}
@@ -9,36 +10,22 @@ pub slot-spec : {M : Type 1} → statement M
 slot-spec =
     tie.close
     (tie.spec
-    (λ c. search needs)
-    (λ c κs. search needs)
-    (λ c. search needs)
     (λ c κs. search needs)
     (λ c κs. search needs)
     (λ c κs. search needs)
-    (λ c. search needs)
-    (λ c κs. search needs)
-    (λ c κs. search needs)
-    (λ c. search needs)
-    (λ c κs. search needs)
-    (λ c. (c .level .ensures .0, λ full. rw (c .before .before .before .slot .given .1) (c .level .ensures .1 full)))
-    (λ c. let a = c .before .before .before .before .before .before .before .before .args in (
+    (λ c. let a = c .before .before .before .before .before .args in (
       c .acted-on .ensures .0,
       λ full. c .acted-on .ensures .1 (a .tbf .now) full
-          ∙ rw (
-            c .before .before .on-start .ensures,
-            c .before .before .before .is-empty .ensures (a .rbf .now),
-            c .before .before .before .before .enum-told .given .1,
-          )
-          (start-taken (stateIn (a .self) (a .tbf .now) (a .rbf .now))),
+          ∙ rw (c .before .before .slot-acted .ensures (a .rbf .now))
+          (slot-taken (stateIn (a .self) (a .tbf .now) (a .rbf .now)) (a .slot)
+          (rw (← c .before .before .before .before .slot-refusal .ensures (a .tbf .now) (a .rbf .now))
+          (eq-eqb _ _ (c .before .before .before .if1 .taken)))),
     ))
-    (λ c. let a = c .before .before .before .before .before .before .before .args in (
-      c .acted-on2 .ensures .0,
-      λ full. c .acted-on2 .ensures .1 (a .tbf .now) full
-          ∙ rw (c .before .before .on-idle .ensures, c .before .before .before .enum-told2 .given .1) (idle-taken
-          (stateIn (a .self) (a .tbf .now) (a .rbf .now))),
-    ))
-    (λ c. let a = c .before .before .before .before .before .args in (
+    (λ c κs. search needs)
+    (λ c. let a = c .before .before .before .args in
+    let number = c .before .before .slot-refusal .ensures (a .tbf .now) (a .rbf .now) in (
       refl,
-      λ full. rw (c .refused .ensures, c .before .enum-told3 .given .1) (stray-refused
-          (stateIn (a .self) (a .tbf .now) (a .rbf .now))),
+      λ full. rw (c .done .ensures, number)
+          (slot-refused (stateIn (a .self) (a .tbf .now) (a .rbf .now)) (a .slot)
+          (rw (← number) (ne-eqb _ _ (c .before .if1 .left)))),
     )))

@@ -1,7 +1,7 @@
-use borrow.Author.Tests.{eq-eqb, ne-eqb}
-use mathlib.Core.Path.{refl, ap, _∙_}
-use Rattle.unit.proofs.Joins.{step-host, step-slot}
-use Rattle.unit.specs.Both.{Both, afterSlot, stateIn}
+use mathlib.Core.Path.{refl, sym, ap, _∙_}
+use Rattle.line.proofs.Either.{both}
+use Rattle.unit.proofs.Listening.{plain-word}
+use Rattle.unit.specs.Both.{Both, answerTo, stateIn}
 use borrow.Author.Needs.{needs}
 use Rattle.unit.proofs.step.Lent.step.Statement.{statement}
 use Rattle.unit.proofs.step.Lent.step.Tie as tie
@@ -12,28 +12,25 @@ step-spec =
     (tie.spec
     (λ c κs. search needs)
     (λ c κs. search needs)
-    (λ c. let a = c .before .before .before .before .before .args in
+    (λ c. let a = c .before .before .before .before .args in
+    let tests = both _ _ (c .before .if1 .taken) in
+    let word = plain-word (stateIn (a .self) (a .tbf .now) (a .rbf .now)) (a .word) (tests .0)
+    (sym (c .before .before .plain .ensures) ∙ tests .1) in
     record {
       tbf-kept = refl;
-      rbf-kept = c .slot .ensures .0;
-      state = λ ft fr. ap (λ (b : Both). b .state) (c .slot .ensures .1 fr ∙ ap
-          (afterSlot (stateIn (a .self) (a .tbf .now) (a .rbf .now))) (c .before .before .before .slot-of .ensures)
-          ∙ step-slot (stateIn (a .self) (a .tbf .now) (a .rbf .now)) (a .word) (eq-eqb _ _
-          (c .before .before .before .before .if1 .taken)));
-      answer = λ ft fr. ap (λ (b : Both). b .answer) (c .slot .ensures .1 fr ∙ ap
-          (afterSlot (stateIn (a .self) (a .tbf .now) (a .rbf .now))) (c .before .before .before .slot-of .ensures)
-          ∙ step-slot (stateIn (a .self) (a .tbf .now) (a .rbf .now)) (a .word) (eq-eqb _ _
-          (c .before .before .before .before .if1 .taken)));
+      rbf-kept = refl;
+      state = λ ft fr. rw (c .plainly .ensures) (ap (λ (b : Both). b .state) word);
+      answer = λ ft fr. rw (c .plainly .ensures) (ap (λ (b : Both). b .answer) word);
     })
     (λ c κs. search needs)
-    (λ c. let a = c .before .before .before .before .args in
+    (λ c κs. search needs)
+    (λ c κs. search needs)
+    (λ c. let done = c .before .before .before .word .ensures in
     record {
-      tbf-kept = c .told .ensures .0;
-      rbf-kept = refl;
-      state = λ ft fr. ap (λ (b : Both). b .state) (c .told .ensures .1 ft ∙ step-host
-          (stateIn (a .self) (a .tbf .now) (a .rbf .now)) (a .word) (ne-eqb _ _
-          (c .before .before .before .if1 .left)));
-      answer = λ ft fr. ap (λ (b : Both). b .answer) (c .told .ensures .1 ft ∙ step-host
-          (stateIn (a .self) (a .tbf .now) (a .rbf .now)) (a .word) (ne-eqb _ _
-          (c .before .before .before .if1 .left)));
+      tbf-kept = done .0;
+      rbf-kept = done .1;
+      state = λ ft fr. ap (λ (b : Both). b .state) (done .2 ft fr);
+      answer = λ ft fr. c .answer-to .ensures
+          ∙ ap (answerTo (c .before .before .before .word .result .outcome)) (c .before .drive .ensures _ _)
+          ∙ ap (λ (b : Both). b .answer) (done .2 ft fr);
     }))

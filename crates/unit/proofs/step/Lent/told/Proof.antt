@@ -22,7 +22,7 @@ told-spec =
     (λ c κs. search needs)
     (λ c. let a = c .before .before .before .args in (
       refl,
-      λ full. rw (c .refused .ensures)
+      λ full. rw (c .done .ensures)
           (told-write-stray (stateIn (a .self) (a .tbf .now) (a .rbf .now)) (a .word) (eq-eqb _ _
           (c .before .before .if1 .taken)) (ne-eqb _ _ (c .before .if2 .left))),
     ))
@@ -37,7 +37,7 @@ told-spec =
     (λ c κs. search needs)
     (λ c. let a = c .before .before .before .before .args in (
       refl,
-      λ full. rw (c .refused2 .ensures)
+      λ full. rw (c .done2 .ensures)
           (told-read-stray (stateIn (a .self) (a .tbf .now) (a .rbf .now)) (a .word) (ne-eqb _ _
           (c .before .before .before .if1 .left)) (eq-eqb _ _ (c .before .before .if3 .taken))
           (ne-eqb _ _ (c .before .if4 .left))),
@@ -45,7 +45,7 @@ told-spec =
     (λ c κs. search needs)
     (λ c. let a = c .before .before .before .args in (
       refl,
-      λ full. rw (c .refused3 .ensures)
+      λ full. rw (c .done3 .ensures)
           (told-refused (stateIn (a .self) (a .tbf .now) (a .rbf .now)) (a .word) (ne-eqb _ _
           (c .before .before .if1 .left)) (ne-eqb _ _ (c .before .if3 .left))),
     )))

@@ -26,7 +26,7 @@ write-spec =
     (λ c. let a = c .before .before .before .before .before .before .args in (
       refl,
       λ r full. rw (
-        c .refused .ensures,
+        c .done .ensures,
         c .before .before .write-refusal .ensures,
         c .before .before .before .len .ensures (a .tbf .now),
       )

@@ -14,25 +14,24 @@ write-done-spec =
     (λ c κs. search needs)
     (λ c. let a = c .before .before .before .before .before .args in (
       c .before .tbf-push .ensures .0,
-      λ r full. c .written .ensures _ r
-          ∙ rw (c .before .tbf-push .ensures .1 full) (done-tbf (stateIn (a .self) (a .tbf .now) r) (a .register)
+      λ r full. rw (c .done .ensures, c .before .tbf-push .ensures .1 full)
+          (done-tbf (stateIn (a .self) (a .tbf .now) r) (a .register)
           (a .v) (eq-eqb _ _ (c .before .before .before .if1 .taken))),
     ))
     (λ c κs. search needs)
     (λ c κs. search needs)
     (λ c. let a = c .before .before .before .before .before .args in (
       refl,
-      λ r full. c .written2 .ensures _ r ∙ ap writtenIn (c .before .reset .ensures _ r)
+      λ r full. rw (c .done2 .ensures) (ap writtenIn (c .before .reset .ensures _ r)
           ∙ done-reset (stateIn (a .self) (a .tbf .now) r) (a .register) (a .v) (ne-eqb _ _
-          (c .before .before .before .if1 .left)) (c .before .before .if2 .taken),
+          (c .before .before .before .if1 .left)) (c .before .before .if2 .taken)),
     ))
     (λ c κs. search needs)
     (λ c κs. search needs)
     (λ c κs. search needs)
     (λ c. let a = c .before .before .before .before .before .before .args in (
       refl,
-      λ r full. c .written3 .ensures _ r
-          ∙ rw (c .before .with-regs .ensures, c .before .before .write .ensures)
+      λ r full. rw (c .done3 .ensures, c .before .with-regs .ensures, c .before .before .write .ensures)
           (done-other (stateIn (a .self) (a .tbf .now) r) (a .register) (a .v) (ne-eqb _ _
           (c .before .before .before .before .if1 .left)) (c .before .before .before .if2 .left)),
     )))

@@ -1,0 +1,167 @@
+-- What the definitions of a word say of the plainest ones: the level is not refused, its bit is shifted in, nothing
+-- comes of it, and the line is released before and after.
+use Prim.Native.Nat.{ℕ, _+_, _%_, _<_, _≤_}
+use mathlib.Core.Bool.{Bool, true, false, not, _&&_, and-false}
+use mathlib.Core.Path.{_≡_, refl, sym, ap, subst, _∙_}
+use native.Mathlib.Omega.{arith}
+use borrow.Author.Tests.{eqb-false, le-leb, leb-true, ltb-true, not-true}
+use lib.Dec.{T, eqb, leb}
+use Rattle.line.specs.Choice.{pick, bitOf}
+use Rattle.line.specs.Numbers.{driveLow, driveReleased, driveStart}
+use Rattle.line.specs.Slot.{classOf, slotOf}
+use Rattle.line.specs.declared.slot.Slot.the-variants.{Level}
+use Rattle.line.proofs.Either.{both, by-value}
+use Rattle.frame.specs.Drive.{driveAt as inFrame, driveIn, driveOf, repliedOf}
+use Rattle.frame.specs.Frame.{nextOf, shiftedOf, widthOf}
+use Rattle.frame.specs.Masters.{clashOf}
+use Rattle.frame.specs.Step.{atControl, atData, atField, atLength, atMaster, atPlace, atSlave, inField, levelOf, moved}
+use Rattle.frame.specs.declared.place.Event.the-variants.{Nothing as Quiet}
+use Rattle.frame.specs.declared.place.Field.{Field}
+use Rattle.frame.specs.declared.place.Field.the-variants.{Broadcast, Master, Slave, Control, Length, Data}
+use Rattle.frame.specs.declared.place.Frame.{Frame}
+use Rattle.frame.specs.declared.place.Place.{Place}
+use Rattle.frame.specs.declared.place.Place.the-variants.{Waiting, In}
+use Rattle.frame.specs.declared.place.View.{View}
+use Rattle.unit.specs.declared.answer.Answer.the-variants.{Given}
+use Rattle.unit.specs.declared.answer.Reply.the-variants.{Taken}
+use Rattle.unit.specs.declared.state.Act.the-variants.{Nothing}
+use Rattle.unit.specs.declared.state.Acted.{Acted}
+use Rattle.unit.specs.declared.state.Core.{Core}
+use Rattle.unit.specs.declared.state.Seen.{Seen}
+use Rattle.unit.specs.Both.{Both, afterSlot, afterWord, slotActed, slotRefusal, takenIn}
+use Rattle.unit.specs.Endings.{acted}
+use Rattle.unit.specs.Plain.{insideOf, listenedAt, listenedOf, plainAt, plainCore, plainOf}
+use Rattle.unit.specs.Slots.{coreDrive, driveAt, onEvent, onLevel}
+use Rattle.unit.specs.State.{State, isEmpty, rbfAfter, seenOf, takesPart, tbfAfter, viewOf}
+use Rattle.unit.specs.Step.{actedOn, answerOf, clashes, nextDrive, stepOf}
+use Rattle.unit.proofs.Calm.{pick-no, pick-yes}
+use Rattle.unit.proofs.Joins.{slot-taken}
+
+-- ---- the frame
+
+-- the unit neither leads nor sends, and the level is a bit of the field
+record Listens (f : Frame) (field : Field) (n : ℕ) : Type 0 where
+  follows : f .leads ≡ false
+  receives : f .sends ≡ false
+  inside : insideOf field n ≡ true
+
+listens : (f : Frame) (field : Field) (n : ℕ) → plainAt (In field n) f ≡ true → Listens f field n
+listens f field n e =
+    let a = both (not (f .leads) && not (f .sends)) (insideOf field n) e in
+    let b = both (not (f .leads)) (not (f .sends)) (a .0) in
+    record { follows = not-true (f .leads) (b .0); receives = not-true (f .sends) (b .1); inside = a .1 }
+
+shifted-in : (f : Frame) (field : Field) (n : ℕ) (bit : Bool) (v : View) → insideOf field n ≡ true
+    → atField f field n bit v ≡ moved Quiet (shiftedOf f field n bit)
+unfolding insideOf atField atMaster atSlave atControl atLength atData
+shifted-in f Broadcast n bit v e = absurd (subst T (sym e) tt)
+shifted-in f Master n bit v e = pick-yes _ _ _ e
+shifted-in f Slave n bit v e = pick-yes _ _ _ e
+shifted-in f Control n bit v e = pick-yes _ _ _ e
+shifted-in f Length n bit v e = pick-yes _ _ _ e
+shifted-in f Data n bit v e = pick-yes _ _ _ e
+
+level-at : (p : Place) (f : Frame) (bit : Bool) (v : View) → plainAt p f ≡ true
+    → atPlace f p bit v ≡ moved Quiet (listenedAt p f bit)
+unfolding inField clashOf
+level-at Waiting f bit v e = refl
+level-at (In field n) f bit v e =
+    let l = listens f field n e in
+    pick-no (clashOf f field n bit v) _ _ (rw (l .follows) refl) ∙ shifted-in f field n bit v (l .inside)
+
+-- ---- the line
+
+inside-below : (field : Field) (n : ℕ) → insideOf field n ≡ true → n < widthOf field
+unfolding insideOf
+inside-below Broadcast n e = absurd (subst T (sym e) tt)
+inside-below Master n e = ltb-true n _ e
+inside-below Slave n e = ltb-true n _ e
+inside-below Control n e = ltb-true n _ e
+inside-below Length n e = ltb-true n _ e
+inside-below Data n e = ltb-true n _ e
+
+replied : (f : Frame) (width n : ℕ) → n ≤ width → repliedOf f width n ≡ true
+unfolding repliedOf
+replied f width n h = rw (le-leb n width h) refl
+
+-- a unit that neither leads nor sends drives nothing up to P
+released-in : (f : Frame) (field : Field) (n : ℕ) (v : View) → f .leads ≡ false → f .sends ≡ false
+    → n ≤ widthOf field → driveIn f field n v ≡ true
+unfolding driveIn
+released-in f Broadcast n v l s h = rw l refl
+released-in f Master n v l s h = pick-no (f .leads) _ _ l
+released-in f Slave n v l s h = pick-no (f .leads) _ _ l ∙ replied f _ n h
+released-in f Control n v l s h = pick-no (f .leads) _ _ l ∙ replied f _ n h
+released-in f Length n v l s h = pick-no (f .sends) _ _ s ∙ replied f _ n h
+released-in f Data n v l s h = pick-no (f .sends) _ _ s ∙ replied f _ n h
+
+-- ---- the unit
+
+start-or-released : (b : Bool) → eqb (pick b driveStart driveReleased) driveLow ≡ false
+start-or-released true = refl
+start-or-released false = refl
+
+module _ (c : Core) (clear : Bool) where
+  abbrev view : View
+  view = viewOf (c .regs) clear
+
+  -- "level 1 while the unit drives 0" does not hold of it
+  not-low : plainOf (c .frame) ≡ true → eqb (coreDrive c clear) driveLow ≡ false
+  unfolding coreDrive plainOf driveOf
+  not-low e = go (c .frame .spot .place) refl e
+    where
+      go : (p : Place) → c .frame .spot .place ≡ p → plainAt p (c .frame) ≡ true
+          → eqb (driveAt p c clear) driveLow ≡ false
+      go Waiting at e = start-or-released (c .idle && takesPart (c .regs) clear)
+      go (In field n) at e =
+          let l = listens (c .frame) field n e in
+          let below = inside-below field n (l .inside) in
+          ap (λ (d : Bool). eqb (bitOf d) driveLow) (ap (λ (p : Place). inFrame (c .frame) p view) at
+          ∙ released-in (c .frame) field n view (l .follows) (l .receives) (omega arith))
+
+  released-after : (bit : Bool) → plainOf (c .frame) ≡ true → coreDrive (plainCore c bit) clear ≡ driveReleased
+  unfolding coreDrive plainOf listenedOf driveOf shiftedOf nextOf
+  released-after bit e = go (c .frame .spot .place) refl e
+    where
+      go : (p : Place) → c .frame .spot .place ≡ p → plainAt p (c .frame) ≡ true
+          → coreDrive (plainCore c bit) clear ≡ driveReleased
+      go Waiting at e = rw at refl
+      go (In field n) at e =
+          let l = listens (c .frame) field n e in
+          let below = inside-below field n (l .inside) in
+          let next : n % 16 + 1 ≤ widthOf field = omega arith in
+          rw at (ap bitOf (released-in (shiftedOf (c .frame) field n bit) field (n % 16 + 1) view (l .follows)
+          (l .receives) next))
+
+acts-plainly : (c : Core) (bit : Bool) (seen : Seen) → plainOf (c .frame) ≡ true
+    → onLevel c bit seen ≡ acted Nothing (plainCore c bit)
+unfolding onLevel onEvent levelOf plainOf listenedOf
+acts-plainly c bit seen e =
+    rw (level-at (c .frame .spot .place) (c .frame) bit (viewOf (c .regs) (seen .clear)) e) refl
+
+-- ---- the word
+
+abbrev plainBoth : State → Bool → Both
+plainBoth s bit =
+    record {
+      state = record { core = plainCore (s .core) bit; tbf = s .tbf; rbf = s .rbf };
+      answer = Given (Taken driveReleased);
+    }
+
+plain-slot : (s : State) (bit : Bool) → plainOf (s .core .frame) ≡ true → plainBoth s bit ≡ afterSlot s (Level bit)
+unfolding clashes nextDrive slotRefusal slotActed tbfAfter rbfAfter
+plain-slot s bit e =
+    let clear = isEmpty (s .rbf) in
+    let free : clashes s bit ≡ false = rw (not-low (s .core) clear e) (and-false bit) in
+    ap (λ (d : ℕ). record { state = plainBoth s bit .state; answer = Given (Taken d) })
+    (sym (released-after (s .core) clear bit e))
+    ∙ ap (λ (a : Acted). takenIn (actedOn s a)) (sym (acts-plainly (s .core) bit (seenOf (s .tbf) (s .rbf)) e))
+    ∙ slot-taken s (Level bit) (rw free refl)
+
+pub plain-word : (s : State) (w : ℕ) → leb w 1 ≡ true → plainOf (s .core .frame) ≡ true
+    → plainBoth s (eqb w 1) ≡ afterWord s w
+unfolding stepOf answerOf classOf slotOf
+plain-word s w level e =
+    by-value (λ (k : ℕ). plainBoth s (eqb k 1) ≡ afterWord s k) w 0 (plain-slot s false e) (λ other.
+    let one : 1 ≡ w = omega (arith, leb-true w 1 level, eqb-false w 0 other) in
+    subst (λ (k : ℕ). plainBoth s (eqb k 1) ≡ afterWord s k) one (plain-slot s true e))
