@@ -1,10 +1,10 @@
--- What the definitions of a word say of the plainest ones: the level is not refused, its bit is shifted in, nothing
--- comes of it, and the line is released before and after.
+-- What the definitions of a word say of the plainest ones: the level is not refused, its bit is shifted in, and nothing
+-- comes of it. Where the unit only listens, the line is released before and after.
 use Prim.Native.Nat.{ℕ, _+_, _%_, _<_, _≤_}
 use mathlib.Core.Bool.{Bool, true, false, not, _&&_, and-false}
 use mathlib.Core.Path.{_≡_, refl, sym, ap, subst, _∙_}
 use native.Mathlib.Omega.{arith}
-use borrow.Author.Tests.{eqb-false, le-leb, leb-true, ltb-true, not-true}
+use borrow.Author.Tests.{eqb-false, eqb-true, le-leb, leb-true, ltb-true, not-true}
 use lib.Dec.{T, eqb, leb}
 use Rattle.line.specs.Choice.{pick, bitOf}
 use Rattle.line.specs.Numbers.{driveLow, driveReleased, driveStart}
@@ -13,7 +13,7 @@ use Rattle.line.specs.declared.slot.Slot.the-variants.{Level}
 use Rattle.line.proofs.Either.{both, by-value}
 use Rattle.frame.specs.Drive.{driveAt as inFrame, driveIn, driveOf, repliedOf}
 use Rattle.frame.specs.Frame.{nextOf, shiftedOf, widthOf}
-use Rattle.frame.specs.Masters.{clashOf}
+use Rattle.frame.specs.Masters.{clashOf, ownBit}
 use Rattle.frame.specs.Step.{atControl, atData, atField, atLength, atMaster, atPlace, atSlave, inField, levelOf, moved}
 use Rattle.frame.specs.declared.place.Event.the-variants.{Nothing as Quiet}
 use Rattle.frame.specs.declared.place.Field.{Field}
@@ -30,7 +30,7 @@ use Rattle.unit.specs.declared.state.Core.{Core}
 use Rattle.unit.specs.declared.state.Seen.{Seen}
 use Rattle.unit.specs.Both.{Both, afterSlot, afterWord, slotActed, slotRefusal, takenIn}
 use Rattle.unit.specs.Endings.{acted}
-use Rattle.unit.specs.Plain.{insideOf, listenedAt, listenedOf, plainAt, plainCore, plainOf}
+use Rattle.unit.specs.Plain.{amidAt, amidOf, insideOf, listenedAt, listenedOf, plainAt, plainCore, plainOf, tookOn}
 use Rattle.unit.specs.Slots.{coreDrive, driveAt, onEvent, onLevel}
 use Rattle.unit.specs.State.{State, isEmpty, rbfAfter, seenOf, takesPart, tbfAfter, viewOf}
 use Rattle.unit.specs.Step.{actedOn, answerOf, clashes, nextDrive, stepOf}
@@ -139,29 +139,88 @@ unfolding onLevel onEvent levelOf plainOf listenedOf
 acts-plainly c bit seen e =
     rw (level-at (c .frame .spot .place) (c .frame) bit (viewOf (c .regs) (seen .clear)) e) refl
 
+-- a bit of a field is shifted in by whoever drives it and finds it on the line
+agrees-at : (p : Place) (f : Frame) (bit : Bool) (v : View) → f .spot .place ≡ p → amidAt p ≡ true
+    → driveOf f v ≡ bit → atPlace f p bit v ≡ moved Quiet (listenedAt p f bit)
+unfolding inField clashOf
+agrees-at Waiting f bit v at e d = absurd (subst T (sym e) tt)
+agrees-at (In field n) f bit v at e d =
+    pick-no (clashOf f field n bit v) _ _
+    (ap (λ (b : Bool). f .leads && ownBit f field n && b && not bit) d ∙ no-clash (f .leads && ownBit f field n) bit)
+    ∙ shifted-in f field n bit v e
+  where
+    no-clash : (x b : Bool) → x && b && not b ≡ false
+    no-clash x true = and-false (x && true)
+    no-clash x false = rw (and-false x) refl
+
+driven-as : (c : Core) (clear bit : Bool) → amidOf (c .frame) ≡ true → coreDrive c clear ≡ bitOf bit
+    → driveOf (c .frame) (viewOf (c .regs) clear) ≡ bit
+unfolding coreDrive amidOf
+driven-as c clear bit e d = go (c .frame .spot .place) refl e d
+  where
+    alike : (a b : Bool) → bitOf a ≡ bitOf b → a ≡ b
+    alike true true h = refl
+    alike false false h = refl
+    alike true false h = absurd (subst T (ap (λ (k : ℕ). eqb k 1) h) tt)
+    alike false true h = absurd (subst T (ap (λ (k : ℕ). eqb k 0) h) tt)
+
+    go : (p : Place) → c .frame .spot .place ≡ p → amidAt p ≡ true → driveAt p c clear ≡ bitOf bit
+        → driveOf (c .frame) (viewOf (c .regs) clear) ≡ bit
+    go Waiting at e d = absurd (subst T (sym e) tt)
+    go (In field n) at e d = alike _ bit d
+
+acts-agreeing : (c : Core) (bit : Bool) (seen : Seen) → amidOf (c .frame) ≡ true
+    → coreDrive c (seen .clear) ≡ bitOf bit → onLevel c bit seen ≡ acted Nothing (plainCore c bit)
+unfolding onLevel onEvent levelOf listenedOf amidOf
+acts-agreeing c bit seen e d =
+    rw (agrees-at (c .frame .spot .place) (c .frame) bit (viewOf (c .regs) (seen .clear)) refl e
+    (driven-as c (seen .clear) bit e d)) refl
+
 -- ---- the word
 
-abbrev plainBoth : State → Bool → Both
-plainBoth s bit =
-    record {
-      state = record { core = plainCore (s .core) bit; tbf = s .tbf; rbf = s .rbf };
-      answer = Given (Taken driveReleased);
-    }
+-- a level that is not refused and is only taken in
+only-taken-in : (s : State) (bit : Bool) → clashes s bit ≡ false
+    → onLevel (s .core) bit (seenOf (s .tbf) (s .rbf)) ≡ acted Nothing (plainCore (s .core) bit)
+    → takenIn (tookOn s bit) ≡ afterSlot s (Level bit)
+unfolding slotRefusal slotActed tbfAfter rbfAfter
+only-taken-in s bit free acts =
+    ap (λ (a : Acted). takenIn (actedOn s a)) (sym acts) ∙ slot-taken s (Level bit) (rw free refl)
 
-plain-slot : (s : State) (bit : Bool) → plainOf (s .core .frame) ≡ true → plainBoth s bit ≡ afterSlot s (Level bit)
-unfolding clashes nextDrive slotRefusal slotActed tbfAfter rbfAfter
+level-word : (P : ℕ → Type 0) (w : ℕ) → leb w 1 ≡ true → P 0 → P 1 → P w
+level-word P w level low high =
+    by-value P w 0 low (λ other. subst P (omega (arith, leb-true w 1 level, eqb-false w 0 other)) high)
+
+plain-slot : (s : State) (bit : Bool) → plainOf (s .core .frame) ≡ true
+    → record { state = tookOn s bit; answer = Given (Taken driveReleased) } ≡ afterSlot s (Level bit)
+unfolding clashes nextDrive
 plain-slot s bit e =
     let clear = isEmpty (s .rbf) in
-    let free : clashes s bit ≡ false = rw (not-low (s .core) clear e) (and-false bit) in
-    ap (λ (d : ℕ). record { state = plainBoth s bit .state; answer = Given (Taken d) })
+    ap (λ (d : ℕ). record { state = tookOn s bit; answer = Given (Taken d) })
     (sym (released-after (s .core) clear bit e))
-    ∙ ap (λ (a : Acted). takenIn (actedOn s a)) (sym (acts-plainly (s .core) bit (seenOf (s .tbf) (s .rbf)) e))
-    ∙ slot-taken s (Level bit) (rw free refl)
+    ∙ only-taken-in s bit (rw (not-low (s .core) clear e) (and-false bit))
+    (acts-plainly (s .core) bit (seenOf (s .tbf) (s .rbf)) e)
+
+agreed-slot : (s : State) (bit : Bool) → amidOf (s .core .frame) ≡ true → nextDrive s ≡ bitOf bit
+    → takenIn (tookOn s bit) ≡ afterSlot s (Level bit)
+unfolding clashes nextDrive
+agreed-slot s bit e d =
+    only-taken-in s bit (free bit d) (acts-agreeing (s .core) bit (seenOf (s .tbf) (s .rbf)) e d)
+  where
+    free : (b : Bool) → coreDrive (s .core) (isEmpty (s .rbf)) ≡ bitOf b
+        → b && eqb (coreDrive (s .core) (isEmpty (s .rbf))) driveLow ≡ false
+    free true d = rw d refl
+    free false d = refl
 
 pub plain-word : (s : State) (w : ℕ) → leb w 1 ≡ true → plainOf (s .core .frame) ≡ true
-    → plainBoth s (eqb w 1) ≡ afterWord s w
+    → record { state = tookOn s (eqb w 1); answer = Given (Taken driveReleased) } ≡ afterWord s w
 unfolding stepOf answerOf classOf slotOf
 plain-word s w level e =
-    by-value (λ (k : ℕ). plainBoth s (eqb k 1) ≡ afterWord s k) w 0 (plain-slot s false e) (λ other.
-    let one : 1 ≡ w = omega (arith, leb-true w 1 level, eqb-false w 0 other) in
-    subst (λ (k : ℕ). plainBoth s (eqb k 1) ≡ afterWord s k) one (plain-slot s true e))
+    level-word (λ (k : ℕ). record { state = tookOn s (eqb k 1); answer = Given (Taken driveReleased) } ≡ afterWord s k)
+    w level (plain-slot s false e) (plain-slot s true e)
+
+pub agreed-word : (s : State) (w : ℕ) → leb w 1 ≡ true → amidOf (s .core .frame) ≡ true
+    → eqb (nextDrive s) w ≡ true → takenIn (tookOn s (eqb w 1)) ≡ afterWord s w
+unfolding stepOf answerOf classOf slotOf
+agreed-word s w level e d =
+    level-word (λ (k : ℕ). eqb (nextDrive s) k ≡ true → takenIn (tookOn s (eqb k 1)) ≡ afterWord s k) w level
+    (λ zero. agreed-slot s false e (eqb-true _ _ zero)) (λ one. agreed-slot s true e (eqb-true _ _ one)) d

@@ -1,8 +1,11 @@
--- The plainest words: a level while the unit waits for a start, or a bit of a field that the unit only listens to. The
--- definitions of a word cover them; what is said here of them is proved of those (`proofs/Listening.antt`).
+-- The plainest words: a level while the unit waits for a start, a bit of a field that the unit only listens to, or a bit
+-- of a field that the line has as the unit drives it. The definitions of a word cover them; what is said here of them is
+-- proved of those (`proofs/Listening.antt`).
 use Prim.Native.Nat.{ℕ}
 use mathlib.Core.Bool.{Bool, true, false, not, _&&_}
-use lib.Dec.{ltb}
+use mathlib.Core.List.{List}
+use mathlib.Core.Path.{_≡_}
+use lib.Dec.{eqb, ltb}
 use Rattle.line.specs.Choice.{_▹_}
 use Rattle.line.specs.Numbers.{driveReleased}
 use Rattle.frame.specs.Frame.{shiftedOf, widthOf}
@@ -16,7 +19,10 @@ use Rattle.unit.specs.declared.answer.Reply.the-variants.{Taken}
 use Rattle.unit.specs.declared.state.Core.{Core}
 use Rattle.unit.specs.declared.step.Answered.{Answered}
 use Rattle.unit.specs.declared.step.Lent.{Lent}
+use Rattle.unit.specs.Both.{Both, stateIn, takenIn}
 use Rattle.unit.specs.Set.{core·frame, core·idle}
+use Rattle.unit.specs.State.{State}
+use Rattle.unit.specs.Step.{nextDrive}
 
 -- a bit of a field that is shifted in: not the broadcast bit, P or A
 unfoldable pub insideOf : Field → ℕ → Bool
@@ -34,6 +40,14 @@ plainAt (In field n) f = not (f .leads) && not (f .sends) && insideOf field n
 unfoldable pub plainOf : Frame → Bool
 plainOf f = plainAt (f .spot .place) f
 
+-- the next level is a bit of a field, whoever sends it
+abbrev pub amidAt : Place → Bool
+amidAt Waiting = false
+amidAt (In field n) = insideOf field n
+
+unfoldable pub amidOf : Frame → Bool
+amidOf f = amidAt (f .spot .place)
+
 abbrev pub listenedAt : Place → Frame → Bool → Frame
 listenedAt Waiting f bit = f
 listenedAt (In field n) f bit = shiftedOf f field n bit
@@ -45,10 +59,22 @@ listenedOf f bit = listenedAt (f .spot .place) f bit
 abbrev pub plainCore : Core → Bool → Core
 plainCore c bit = c ▹ core·idle false ▹ core·frame (listenedOf (c .frame) bit)
 
--- nothing is done to the buffers, and the line is released next
+-- nothing is done to the buffers
+abbrev pub tookBy : Lent → Bool → Lent
+tookBy u bit = record { core = plainCore (u .core) bit; tbf = u .tbf; rbf = u .rbf }
+
+abbrev pub tookOn : State → Bool → State
+tookOn s bit = record { core = plainCore (s .core) bit; tbf = s .tbf; rbf = s .rbf }
+
+-- the line is released next
 abbrev pub plainly : Lent → Bool → Answered
-plainly u bit =
-    record {
-      lent = record { core = plainCore (u .core) bit; tbf = u .tbf; rbf = u .rbf };
-      answer = Given (Taken driveReleased);
-    }
+plainly u bit = record { lent = tookBy u bit; answer = Given (Taken driveReleased) }
+
+-- the word is the level that the unit drives
+abbrev pub Agrees : Lent → ℕ → Bool → Type 0
+Agrees u w agrees =
+    (t r : List ℕ) → agrees ≡ (amidOf (u .core .frame) && eqb (nextDrive (stateIn u t r)) w)
+
+abbrev pub Agreed : Lent → Bool → Answered → Type 0
+Agreed u bit a =
+    (t r : List ℕ) → record { state = stateIn (a .lent) t r; answer = a .answer } ≡ takenIn (tookOn (stateIn u t r) bit)

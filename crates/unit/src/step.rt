@@ -191,6 +191,9 @@ impl Lent {
         if (word <= SLOT_HIGH) & plain(core.frame) {
             return self.plainly(word == SLOT_HIGH);
         }
+        if (word <= SLOT_HIGH) & self.agrees(word) {
+            return self.agreed(word == SLOT_HIGH);
+        }
         let after = self.word(word, tbf, rbf);
         let lent = after.lent;
         let outcome = after.outcome;

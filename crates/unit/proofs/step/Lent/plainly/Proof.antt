@@ -7,4 +7,4 @@ plainly-spec =
     tie.close
     (tie.spec
     (λ c κs. search needs)
-    (λ c. simp (c .listened .ensures)))
+    (λ c. simp (c .took .ensures)))

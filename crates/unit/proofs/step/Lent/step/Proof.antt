@@ -1,6 +1,6 @@
 use mathlib.Core.Path.{refl, sym, ap, _∙_}
 use Rattle.line.proofs.Either.{both}
-use Rattle.unit.proofs.Listening.{plain-word}
+use Rattle.unit.proofs.Listening.{agreed-word, plain-word}
 use Rattle.unit.specs.Both.{Both, answerTo, stateIn}
 use borrow.Author.Needs.{needs}
 use Rattle.unit.proofs.step.Lent.step.Statement.{statement}
@@ -21,6 +21,19 @@ step-spec =
       rbf-kept = refl;
       state = λ ft fr. rw (c .plainly .ensures) (ap (λ (b : Both). b .state) word);
       answer = λ ft fr. rw (c .plainly .ensures) (ap (λ (b : Both). b .answer) word);
+    })
+    (λ c κs. search needs)
+    (λ c κs. search needs)
+    (λ c. let a = c .before .before .before .before .before .before .args in
+    let s = stateIn (a .self) (a .tbf .now) (a .rbf .now) in
+    let tests = both _ _ (c .before .if2 .taken) in
+    let met = both _ _ (sym (c .before .before .agrees .ensures (a .tbf .now) (a .rbf .now)) ∙ tests .1) in
+    let word = c .agreed .ensures (a .tbf .now) (a .rbf .now) ∙ agreed-word s (a .word) (tests .0) (met .0) (met .1) in
+    record {
+      tbf-kept = refl;
+      rbf-kept = refl;
+      state = λ ft fr. ap (λ (b : Both). b .state) word;
+      answer = λ ft fr. ap (λ (b : Both). b .answer) word;
     })
     (λ c κs. search needs)
     (λ c κs. search needs)
