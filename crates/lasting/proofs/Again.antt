@@ -14,8 +14,8 @@ use Rattle.frame.specs.declared.place.Frame.{Frame}
 use Rattle.frame.specs.declared.place.Place.{Place}
 use Rattle.frame.specs.declared.place.Place.the-variants.{Waiting, In}
 use Rattle.unit.specs.Queue.{heldOf}
-use Rattle.unit.specs.State.{State}
-use Rattle.unit.specs.declared.state.Registers.{Registers}
+use Rattle.rules.specs.State.{State}
+use Rattle.rules.specs.declared.state.Registers.{Registers}
 use Rattle.lasting.specs.Calls.{Keeps}
 use Rattle.lasting.specs.Layout.{frameEnd, idlePlace, part, registersEnd, stateBytes, tbfEnd}
 use Rattle.lasting.specs.Encode.{Fits, FrameFits, RegistersFit, bufferBytes, encode, frameBytes, high, low}

@@ -11,8 +11,8 @@ use lib.Seq.{take-at}
 use Rattle.line.proofs.Either.{same-or-not}
 use Rattle.isolation.specs.Runs.{Behind, Compared, Given, Protected, answers, run}
 use Rattle.isolation.proofs.Appended.{run-append, answers-append}
-use Rattle.unit.specs.Machine.{observed, unit}
-use Rattle.unit.specs.State.{State, reset}
+use Rattle.rules.specs.Machine.{observed, unit}
+use Rattle.rules.specs.State.{State, reset}
 use Rattle.list_run.specs.Bytes.{CalledBytes, byteRefusal, bytesAfter, bytesOf, bytesOfWord, wordFrom, wordsOf}
 use Rattle.list_run.proofs.Alike.{AlikeIn, answers-alike}
 use Rattle.list_run.proofs.Called.{answers-length, answers-spelled}

@@ -4,8 +4,8 @@ use mathlib.Core.List.{List, _++_}
 use Prim.Native.Nat.{ℕ}
 use lib.ListN.{length, drop}
 use Rattle.isolation.specs.Runs.{run, answers}
-use Rattle.unit.specs.Machine.{unit}
-use Rattle.unit.specs.State.{State}
+use Rattle.rules.specs.Machine.{unit}
+use Rattle.rules.specs.State.{State}
 use Rattle.list_run.specs.Bytes.{byteRefusal, bytesAfter, bytesOf, stateAfter, wordsOf}
 use Rattle.lasting.specs.Layout.{stateBytes}
 use Rattle.lasting.specs.Calls.{Keeps, runAnswers, runBytes, runRefusal, runState, sizeRefusal}

@@ -6,8 +6,8 @@ use lib.Dec.{eqb}
 use lib.ListN.{drop, length}
 use Rattle.line.specs.Choice.{pick}
 use Rattle.isolation.specs.Runs.{Protected, run, answers}
-use Rattle.unit.specs.Machine.{unit}
-use Rattle.unit.specs.State.{State, reset}
+use Rattle.rules.specs.Machine.{unit}
+use Rattle.rules.specs.State.{State, reset}
 use Rattle.list_run.specs.Bytes.{byteRefusal, bytesOf, wordsOf}
 use Rattle.lasting.specs.Layout.{stateBytes}
 use Rattle.lasting.specs.Encode.{encode}

@@ -9,8 +9,8 @@ use Rattle.frame.specs.declared.place.Field.the-variants.{Broadcast, Master, Sl
 use Rattle.frame.specs.declared.place.Frame.{Frame}
 use Rattle.frame.specs.declared.place.Place.{Place}
 use Rattle.frame.specs.declared.place.Place.the-variants.{Waiting, In}
-use Rattle.unit.specs.State.{State}
-use Rattle.unit.specs.declared.state.Registers.{Registers}
+use Rattle.rules.specs.State.{State}
+use Rattle.rules.specs.declared.state.Registers.{Registers}
 
 -- the two bytes of a number
 abbrev pub low : ℕ → ℕ

@@ -14,7 +14,7 @@ use frame::place::Field;
 use frame::place::Frame;
 use frame::place::Place;
 use frame::place::Spot;
-use unit::state::Registers;
+use rules::state::Registers;
 
 // A number of 16 bits takes two bytes, the lower first.
 fn low_byte(n: u16) -> u8

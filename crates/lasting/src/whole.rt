@@ -20,7 +20,7 @@ use crate::scalars::frame_bytes;
 use crate::scalars::frame_from;
 use crate::scalars::registers_bytes;
 use crate::scalars::registers_from;
-use unit::state::Core;
+use rules::state::Core;
 use unit::step::Unit;
 
 fn core_from(state: &[u8]) -> Core

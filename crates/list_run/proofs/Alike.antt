@@ -12,8 +12,8 @@ use Rattle.line.specs.Slot.{Class, slot, host, classOf}
 use Rattle.line.specs.declared.slot.Slot.the-variants.{Level, Start, Idle, Stray}
 use Rattle.isolation.specs.Words.{framed, keeps, marks}
 use Rattle.isolation.specs.Runs.{Behind, Compared, Given, Places, Protected, answers, driven, run, shown}
-use Rattle.unit.specs.Machine.{observed, unit}
-use Rattle.unit.specs.State.{State, reset}
+use Rattle.rules.specs.Machine.{observed, unit}
+use Rattle.rules.specs.State.{State, reset}
 use Rattle.list_run.specs.Bytes.{CalledBytes, wordsOf}
 use Rattle.list_run.specs.Run.{Called}
 use Rattle.list_run.proofs.Called.{state-left, answers-first, answers-later}

@@ -6,13 +6,13 @@ use native.Mathlib.Omega.{arith}
 use lib.ListN.{length, take, drop}
 use lib.Seq.{drop-at, take-at}
 use Rattle.isolation.specs.Runs.{run, answers}
-use Rattle.unit.specs.Machine.{unit}
-use Rattle.unit.specs.State.{State, reset}
+use Rattle.rules.specs.Machine.{unit}
+use Rattle.rules.specs.State.{State, reset}
 use Rattle.isolation.proofs.Appended.{answers-append}
-use Rattle.unit.specs.declared.answer.Answer.{Answer}
-use Rattle.unit.specs.declared.answer.Answer.the-variants.{Given, Refused}
-use Rattle.unit.specs.declared.answer.Reply.the-variants.{Taken, Written, Read}
-use Rattle.unit.specs.Step.{answerOf, stepOf, wordOf}
+use Rattle.rules.specs.declared.answer.Answer.{Answer}
+use Rattle.rules.specs.declared.answer.Answer.the-variants.{Given, Refused}
+use Rattle.rules.specs.declared.answer.Reply.the-variants.{Taken, Written, Read}
+use Rattle.rules.specs.Step.{answerOf, stepOf, wordOf}
 use Rattle.list_run.specs.Run.{Called, answersAfter, unitAfter}
 use Rattle.list_run.specs.Bytes.{CalledBytes, bytesAfter, bytesOf, wordFrom, wordsOf}
 

@@ -8,12 +8,12 @@ use native.Mathlib.Omega.{arith}
 use lib.ListN.{length, take, getD}
 use lib.Seq.{getD-take}
 use Rattle.isolation.specs.Runs.{run, answers}
-use Rattle.unit.specs.declared.answer.Answer.{Answer}
-use Rattle.unit.specs.Machine.{unit}
-use Rattle.unit.specs.Refusals.{Ruled}
-use Rattle.unit.specs.State.{State}
-use Rattle.unit.specs.Step.{answerOf, stepOf, wordOf}
-use Rattle.unit.proofs.Ruled.{ruled}
+use Rattle.rules.specs.declared.answer.Answer.{Answer}
+use Rattle.rules.specs.Machine.{unit}
+use Rattle.rules.specs.Refusals.{Ruled}
+use Rattle.rules.specs.State.{State}
+use Rattle.rules.specs.Step.{answerOf, stepOf, wordOf}
+use Rattle.rules.proofs.Ruled.{ruled}
 use Rattle.list_run.specs.Run.{Called}
 use Rattle.list_run.proofs.Called.{answers-first}
 

@@ -6,8 +6,8 @@ use Prim.Native.Nat.{ℕ}
 use lib.ListN.{length, take}
 use Rattle.isolation.specs.Runs.{run}
 use Rattle.isolation.proofs.Appended.{run-append, answers-append}
-use Rattle.unit.specs.Machine.{unit}
-use Rattle.unit.specs.State.{State}
+use Rattle.rules.specs.Machine.{unit}
+use Rattle.rules.specs.State.{State}
 use Rattle.list_run.specs.Run.{Called}
 use Rattle.list_run.proofs.Called.{state-left, answers-first}
 

@@ -9,8 +9,8 @@ use Rattle.line.specs.Choice.{pick}
 use Rattle.line.specs.Numbers.{refusedByteCount, refusedShortList}
 use Rattle.isolation.specs.Runs.{Protected, run, answers}
 use Rattle.unit.specs.Both.{stateIn}
-use Rattle.unit.specs.Machine.{unit}
-use Rattle.unit.specs.State.{State, reset}
+use Rattle.rules.specs.Machine.{unit}
+use Rattle.rules.specs.State.{State, reset}
 use Rattle.unit.specs.declared.step.Lent.{Lent}
 
 -- a word from its bytes, the lowest first

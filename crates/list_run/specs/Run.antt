@@ -9,8 +9,8 @@ use Rattle.line.specs.Choice.{pick}
 use Rattle.line.specs.Numbers.{rbfBytes, refusedShortList, tbfBytes}
 use Rattle.isolation.specs.Runs.{Protected, run, answers}
 use Rattle.unit.specs.Both.{stateIn}
-use Rattle.unit.specs.Machine.{unit}
-use Rattle.unit.specs.State.{State}
+use Rattle.rules.specs.Machine.{unit}
+use Rattle.rules.specs.State.{State}
 use Rattle.unit.specs.declared.step.Lent.{Lent}
 use Rattle.list_run.specs.declared.run.Outcome.{Outcome}
 use Rattle.list_run.specs.declared.run.Outcome.the-variants.{Ran, ShortList}

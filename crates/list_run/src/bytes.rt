@@ -12,7 +12,7 @@ use line::numbers::RBF_BYTES;
 use line::numbers::REFUSED_BYTE_COUNT;
 use line::numbers::REFUSED_SHORT_LIST;
 use line::numbers::TBF_BYTES;
-use unit::answer::Answer;
+use rules::answer::Answer;
 use unit::answer::answer_word;
 use unit::step::Lent;
 use unit::step::Unit;

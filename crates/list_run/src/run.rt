@@ -6,7 +6,7 @@ ghost use Rattle.unit.specs.Both.{stateIn, stateOf};
 ghost use Rattle.list_run.specs.Run.{Called, RunsLent, Whole, numberOf};
 use line::numbers::RBF_BYTES;
 use line::numbers::TBF_BYTES;
-use unit::answer::Answer;
+use rules::answer::Answer;
 use unit::answer::answer_word;
 use unit::buffers::Rbf;
 use unit::buffers::Tbf;

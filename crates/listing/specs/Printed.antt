@@ -5,7 +5,7 @@ use lib.Dec.{ltb}
 use lib.ListN.{length, take, replicate}
 use Rattle.line.specs.Choice.{pick}
 use Rattle.list_run.specs.Bytes.{bytesAfter}
-use Rattle.unit.specs.State.{reset}
+use Rattle.rules.specs.State.{reset}
 use Rattle.text.specs.Last.{mostBytes}
 use Rattle.text.specs.Listing.{listedOf}
 

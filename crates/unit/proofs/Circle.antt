@@ -11,7 +11,7 @@ use lib.ListN.{length, getD, set, drop}
 use lib.Seq.{getD-set-same, getD-set-other}
 use Rattle.line.specs.Choice.{pick}
 use Rattle.unit.specs.Queue.{wrap, startOf, heldOf, items}
-use Rattle.unit.specs.State.{pushOf}
+use Rattle.rules.specs.State.{pushOf}
 
 -- ---- places
 

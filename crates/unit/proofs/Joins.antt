@@ -12,11 +12,11 @@ use Rattle.line.specs.declared.slot.Slot.the-variants.{Level, Start, Idle, Stra
 use Rattle.line.proofs.Either.{either}
 use Rattle.unit.specs.Both.{afterDone, afterHost, afterRead, afterSlot, afterTold, afterWord, afterWrite}
 use Rattle.unit.specs.Both.{gaveIn, refusedIn, slotActed, slotRefusal, takenIn, writtenIn}
-use Rattle.unit.specs.Registers.{gave, readRefusal, readTold, readValue, registerOf, toldOf, valueOf, writeDone}
-use Rattle.unit.specs.Registers.{writeRefusal, writeTold, written}
-use Rattle.unit.specs.Set.{core·regs}
-use Rattle.unit.specs.State.{State, isEmpty, pushOf, reset}
-use Rattle.unit.specs.Step.{actedOn, answerOf, clashes, slotOn, slotSaid, stepOf}
+use Rattle.rules.specs.Registers.{gave, readRefusal, readTold, readValue, registerOf, toldOf, valueOf, writeDone}
+use Rattle.rules.specs.Registers.{writeRefusal, writeTold, written}
+use Rattle.rules.specs.Set.{core·regs}
+use Rattle.rules.specs.State.{State, isEmpty, pushOf, reset}
+use Rattle.rules.specs.Step.{actedOn, answerOf, clashes, slotOn, slotSaid, stepOf}
 
 -- ---- slots
 

@@ -1,12 +1,4 @@
--- The laws that the proofs of this library share, then demand 3 over its definitions.
+-- The laws that the proofs of this library share.
 pub mod Circle
 pub mod Joins
-pub mod Answers
-pub mod Calm
 pub mod Listening
-pub mod Strangers
-pub mod Protects
-pub mod Ruled
-pub mod Locks
-pub mod Example
-pub mod Asked

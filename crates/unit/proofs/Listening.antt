@@ -22,19 +22,19 @@ use Rattle.frame.specs.declared.place.Frame.{Frame}
 use Rattle.frame.specs.declared.place.Place.{Place}
 use Rattle.frame.specs.declared.place.Place.the-variants.{Waiting, In}
 use Rattle.frame.specs.declared.place.View.{View}
-use Rattle.unit.specs.declared.answer.Answer.the-variants.{Given}
-use Rattle.unit.specs.declared.answer.Reply.the-variants.{Taken}
-use Rattle.unit.specs.declared.state.Act.the-variants.{Nothing}
-use Rattle.unit.specs.declared.state.Acted.{Acted}
-use Rattle.unit.specs.declared.state.Core.{Core}
-use Rattle.unit.specs.declared.state.Seen.{Seen}
+use Rattle.rules.specs.declared.answer.Answer.the-variants.{Given}
+use Rattle.rules.specs.declared.answer.Reply.the-variants.{Taken}
+use Rattle.rules.specs.declared.state.Act.the-variants.{Nothing}
+use Rattle.rules.specs.declared.state.Acted.{Acted}
+use Rattle.rules.specs.declared.state.Core.{Core}
+use Rattle.rules.specs.declared.state.Seen.{Seen}
 use Rattle.unit.specs.Both.{Both, afterSlot, afterWord, slotActed, slotRefusal, takenIn}
-use Rattle.unit.specs.Endings.{acted}
+use Rattle.rules.specs.Endings.{acted}
 use Rattle.unit.specs.Plain.{amidAt, amidOf, insideOf, listenedAt, listenedOf, plainAt, plainCore, plainOf, tookOn}
-use Rattle.unit.specs.Slots.{coreDrive, driveAt, onEvent, onLevel}
-use Rattle.unit.specs.State.{State, isEmpty, rbfAfter, seenOf, takesPart, tbfAfter, viewOf}
-use Rattle.unit.specs.Step.{actedOn, answerOf, clashes, nextDrive, stepOf}
-use Rattle.unit.proofs.Calm.{pick-no, pick-yes}
+use Rattle.rules.specs.Slots.{coreDrive, driveAt, onEvent, onLevel}
+use Rattle.rules.specs.State.{State, isEmpty, rbfAfter, seenOf, takesPart, tbfAfter, viewOf}
+use Rattle.rules.specs.Step.{actedOn, answerOf, clashes, nextDrive, stepOf}
+use Rattle.rules.proofs.Calm.{pick-no, pick-yes}
 use Rattle.unit.proofs.Joins.{slot-taken}
 
 -- ---- the frame

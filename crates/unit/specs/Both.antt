@@ -9,25 +9,25 @@ use Rattle.line.specs.Choice.{pick}
 use Rattle.line.specs.Numbers.{rbfBytes, refusedLevel, refusedStrayBit, tbfBytes}
 use Rattle.line.specs.declared.slot.Slot.{Slot}
 use Rattle.line.specs.declared.slot.Slot.the-variants.{Level, Start, Idle, Stray}
-use Rattle.unit.specs.declared.answer.Answer.{Answer}
-use Rattle.unit.specs.declared.answer.Answer.the-variants.{Given, Refused}
+use Rattle.rules.specs.declared.answer.Answer.{Answer}
+use Rattle.rules.specs.declared.answer.Answer.the-variants.{Given, Refused}
 use Rattle.unit.specs.declared.answer.Outcome.{Outcome}
 use Rattle.unit.specs.declared.answer.Outcome.the-variants.{Taken as took, Written as wrote, Read as read}
 use Rattle.unit.specs.declared.answer.Outcome.the-variants.{Refused as denied}
-use Rattle.unit.specs.declared.answer.Reply.the-variants.{Taken, Written, Read}
-use Rattle.unit.specs.declared.state.Act.the-variants.{Nothing}
-use Rattle.unit.specs.declared.state.Acted.{Acted}
-use Rattle.unit.specs.declared.state.Seen.{Seen}
+use Rattle.rules.specs.declared.answer.Reply.the-variants.{Taken, Written, Read}
+use Rattle.rules.specs.declared.state.Act.the-variants.{Nothing}
+use Rattle.rules.specs.declared.state.Acted.{Acted}
+use Rattle.rules.specs.declared.state.Seen.{Seen}
 use Rattle.unit.specs.declared.step.Answered.{Answered}
 use Rattle.unit.specs.declared.step.Done.{Done}
 use Rattle.unit.specs.declared.step.Lent.{Lent}
 use Rattle.unit.specs.declared.step.Unit.{Unit}
-use Rattle.unit.specs.Endings.{acted}
+use Rattle.rules.specs.Endings.{acted}
 use Rattle.unit.specs.Queue.{circleOf, tbfOf, rbfOf}
-use Rattle.unit.specs.Registers.{Told, toldOf, readTold, writeDone, writeTold}
-use Rattle.unit.specs.Slots.{onIdle, onLevel, onStart}
-use Rattle.unit.specs.State.{State, isEmpty, reset, seenOf}
-use Rattle.unit.specs.Step.{actedOn, answerOf, clashes, nextDrive, slotOn, slotSaid, stepOf, toldOn, toldSaid}
+use Rattle.rules.specs.Registers.{Told, toldOf, readTold, writeDone, writeTold}
+use Rattle.rules.specs.Slots.{onIdle, onLevel, onStart}
+use Rattle.rules.specs.State.{State, isEmpty, reset, seenOf}
+use Rattle.rules.specs.Step.{actedOn, answerOf, clashes, nextDrive, slotOn, slotSaid, stepOf, toldOn, toldSaid}
 
 -- a unit whose buffers are lent: the bytes of TBF and of RBF
 abbrev pub stateIn : Lent → List ℕ → List ℕ → State

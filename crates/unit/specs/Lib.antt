@@ -1,14 +1,4 @@
--- The definitions that a reader has to believe, in the order of document 01; then how the code's structs stand for
--- them, and the marked cases.
-pub mod Set
-pub mod State
-pub mod Endings
-pub mod Slots
-pub mod Registers
-pub mod Step
-pub mod Refusals
-pub mod Machine
+-- How the structs of the code stand for the state of the rules.
 pub mod Queue
 pub mod Both
 pub mod Plain
-pub mod Cases

@@ -14,15 +14,15 @@ use Rattle.frame.specs.declared.place.Field.the-variants.{Broadcast, Master, Sl
 use Rattle.frame.specs.declared.place.Frame.{Frame}
 use Rattle.frame.specs.declared.place.Place.{Place}
 use Rattle.frame.specs.declared.place.Place.the-variants.{Waiting, In}
-use Rattle.unit.specs.declared.answer.Answer.the-variants.{Given}
-use Rattle.unit.specs.declared.answer.Reply.the-variants.{Taken}
-use Rattle.unit.specs.declared.state.Core.{Core}
+use Rattle.rules.specs.declared.answer.Answer.the-variants.{Given}
+use Rattle.rules.specs.declared.answer.Reply.the-variants.{Taken}
+use Rattle.rules.specs.declared.state.Core.{Core}
 use Rattle.unit.specs.declared.step.Answered.{Answered}
 use Rattle.unit.specs.declared.step.Lent.{Lent}
 use Rattle.unit.specs.Both.{Both, stateIn, takenIn}
-use Rattle.unit.specs.Set.{core·frame, core·idle}
-use Rattle.unit.specs.State.{State}
-use Rattle.unit.specs.Step.{nextDrive}
+use Rattle.rules.specs.Set.{core·frame, core·idle}
+use Rattle.rules.specs.State.{State}
+use Rattle.rules.specs.Step.{nextDrive}
 
 -- a bit of a field that is shifted in: not the broadcast bit, P or A
 unfoldable pub insideOf : Field → ℕ → Bool

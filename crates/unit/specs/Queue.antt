@@ -10,8 +10,8 @@ use Rattle.line.specs.Numbers.{rbfBytes, tbfBytes}
 use Rattle.unit.specs.declared.buffers.Rbf.{Rbf}
 use Rattle.unit.specs.declared.buffers.Span.{Span}
 use Rattle.unit.specs.declared.buffers.Tbf.{Tbf}
-use Rattle.unit.specs.declared.state.Act.{Act}
-use Rattle.unit.specs.State.{isEmpty, pushOf, rbfAfter, tbfAfter}
+use Rattle.rules.specs.declared.state.Act.{Act}
+use Rattle.rules.specs.State.{isEmpty, pushOf, rbfAfter, tbfAfter}
 
 -- a place in a circle of so many places, for places below twice as many
 abbrev pub wrap : ℕ → ℕ → ℕ

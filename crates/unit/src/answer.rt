@@ -1,23 +1,13 @@
 // What a word is answered.
 ghost use mathlib.Core.Path.{_≡_};
 ghost use Rattle.unit.specs.Both.{answerTo};
-ghost use Rattle.unit.specs.Step.{wordOf};
+ghost use Rattle.rules.specs.Step.{wordOf};
 use line::numbers::KIND_REFUSED;
 use line::numbers::KIND_TAKEN;
 use line::numbers::KIND_VALUE;
 use line::numbers::KIND_WRITTEN;
-
-// An answer to an accepted word: the level or start that the unit drives next and, of a read, the value first.
-pub enum Reply {
-    Taken(u8),
-    Written(u8),
-    Read(u8, u8),
-}
-
-pub enum Answer {
-    Given(Reply),
-    Refused(u8),
-}
+use rules::answer::Answer;
+use rules::answer::Reply;
 
 // What a word came to: its answer, but for what the unit drives next.
 pub(crate) enum Outcome {

@@ -8,9 +8,9 @@ ghost use Prim.Native.Nat.{_+_, _<_, _≤_};
 ghost use Rattle.line.specs.Numbers.{rbfBytes, tbfBytes};
 ghost use Rattle.unit.specs.Queue.{Clear, Length, Popped, Pushes, SentAfter, StoredAfter, Vacant, circleOf};
 ghost use Rattle.unit.specs.Queue.{heldOf, rbfOf, startOf, tbfOf, wrap};
-use crate::state::Act;
 use line::numbers::RBF_BYTES;
 use line::numbers::TBF_BYTES;
+use rules::state::Act;
 
 pub struct Span {
     pub first: usize,

@@ -1,13 +1,11 @@
 // How a unit's part in a frame ends: return codes, flags, TBF and the lock.
 ghost use mathlib.Core.Path.{_≡_};
 ghost use Prim.Native.Nat.{_≤_};
-ghost use Rattle.unit.specs.Endings.{cutOf, dataEnded, draws, endCode, endedOf, frees, leftOf, lengthEnded};
-ghost use Rattle.unit.specs.Endings.{lockAfter, partEnded, receptionCode, receptionEnded, requestEnded};
-ghost use Rattle.unit.specs.Endings.{sendingEnded, slaveEnded, ties};
-ghost use Rattle.unit.specs.Set.{core·regs};
-use crate::state::Act;
-use crate::state::Acted;
-use crate::state::Core;
+ghost use Rattle.rules.specs.Endings.{cutOf, dataEnded, draws, endCode, endedOf, frees, leftOf, lengthEnded};
+ghost use Rattle.rules.specs.Endings.{lockAfter, partEnded, receptionCode, receptionEnded, requestEnded};
+ghost use Rattle.rules.specs.Endings.{sendingEnded, slaveEnded, ties};
+ghost use Rattle.rules.specs.Set.{core·regs};
+use crate::state::acting;
 use frame::place::Field;
 use frame::place::Frame;
 use frame::place::Place;
@@ -17,6 +15,9 @@ use line::numbers::CODE_BROADCAST_RECEIVING;
 use line::numbers::CODE_NORMAL;
 use line::numbers::CODE_RECEIVING;
 use line::numbers::CODE_SENDING;
+use rules::state::Act;
+use rules::state::Acted;
+use rules::state::Core;
 
 // "Codes, in the order started, data wanted or full, normal, aborted": the code of an end, from that of the start.
 fn end_code(started: u8, whole: bool) -> u8
@@ -93,12 +94,12 @@ pub(crate) fn request_ended(mut core: Core, whole: bool) -> Acted
         let code = end_code(CODE_SENDING, whole);
         core.regs.marq = false;
         core.regs.marc = code;
-        return core.acting(Act::Empty);
+        return acting(core, Act::Empty);
     }
     let code = end_code(CODE_RECEIVING, whole);
     core.regs.marq = false;
     core.regs.marc = code;
-    core.acting(Act::Nothing)
+    acting(core, Act::Nothing)
 }
 
 // A slave's sending from TBF has ended: ".. STRQ ..".
@@ -108,7 +109,7 @@ fn sending_ended(mut core: Core, whole: bool) -> Acted
     let code = end_code(CODE_SENDING, whole);
     core.regs.slrc = code;
     core.regs.strq = false;
-    core.acting(Act::Empty)
+    acting(core, Act::Empty)
 }
 
 // A slave's reception has ended: ".. or SLRE".
@@ -119,7 +120,7 @@ fn reception_ended(mut core: Core, whole: bool) -> Acted
     let code = end_code(started, whole);
     core.regs.slrc = code;
     core.regs.slre = false;
-    core.acting(Act::Nothing)
+    acting(core, Act::Nothing)
 }
 
 // A slave's part in the data has ended.
@@ -131,7 +132,7 @@ fn part_ended(core: Core, whole: bool) -> Acted
         return sending_ended(core, whole);
     }
     if frame.sends {
-        return core.acting(Act::Nothing);
+        return acting(core, Act::Nothing);
     }
     reception_ended(core, whole)
 }
@@ -149,7 +150,7 @@ fn length_ended(core: Core) -> Acted
     if draws_bytes(core.frame) {
         return sending_ended(core, false);
     }
-    core.acting(Act::Nothing)
+    acting(core, Act::Nothing)
 }
 
 // A slave's part has ended in a field. Before the length nothing has begun.
@@ -157,12 +158,12 @@ fn slave_ended(place: Place, core: Core, whole: bool) -> Acted
     ensures { λ r. ⌜ r ≡ slaveEnded place core whole ⌝ }
 {
     match place {
-        Place::Waiting => core.acting(Act::Nothing),
+        Place::Waiting => acting(core, Act::Nothing),
         Place::In(field, _) => match field {
-            Field::Broadcast => core.acting(Act::Nothing),
-            Field::Master => core.acting(Act::Nothing),
-            Field::Slave => core.acting(Act::Nothing),
-            Field::Control => core.acting(Act::Nothing),
+            Field::Broadcast => acting(core, Act::Nothing),
+            Field::Master => acting(core, Act::Nothing),
+            Field::Slave => acting(core, Act::Nothing),
+            Field::Control => acting(core, Act::Nothing),
             Field::Length => length_ended(core),
             Field::Data => data_ended(core, whole),
         },
@@ -201,7 +202,7 @@ pub(crate) fn cut(core: Core) -> Acted
     let spot = frame.spot;
     let place = spot.place;
     match place {
-        Place::Waiting => core.acting(Act::Nothing),
+        Place::Waiting => acting(core, Act::Nothing),
         Place::In(_, _) => left(ended(core, false), frame.done()),
     }
 }

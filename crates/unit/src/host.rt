@@ -7,6 +7,7 @@ use crate::registers::read_refusal;
 use crate::registers::read_value;
 use crate::registers::write;
 use crate::registers::write_refusal;
+use crate::state::with_regs;
 use crate::step::Done;
 use crate::step::Lent;
 use line::numbers::CTR_RESET;
@@ -34,7 +35,7 @@ impl Lent {
         if (register == REG_CTR) & (v == CTR_RESET) {
             return Lent::reset().done(Outcome::Written);
         }
-        let next = core.with_regs(write(core.regs, register, v));
+        let next = with_regs(core, write(core.regs, register, v));
         self.core = next;
         self.done(Outcome::Written)
     }

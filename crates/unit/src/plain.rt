@@ -3,14 +3,14 @@
 // stored with them, so they need not be carried through all that a slot can bring about.
 ghost use mathlib.Core.Path.{_≡_};
 ghost use Rattle.unit.specs.Plain.{Agreed, Agrees, amidOf, insideOf, listenedOf, plainOf, plainly, tookBy};
-use crate::answer::Answer;
-use crate::answer::Reply;
 use crate::step::Answered;
 use crate::step::Lent;
 use frame::place::Field;
 use frame::place::Frame;
 use frame::place::Place;
 use line::numbers::DRIVE_RELEASED;
+use rules::answer::Answer;
+use rules::answer::Reply;
 
 // A bit of a field that is shifted in: not the broadcast bit, P or A.
 fn inside(field: Field, n: u8) -> bool

@@ -5,12 +5,11 @@ ghost use Prim.Native.Nat.{_+_, _*_};
 ghost use lib.Dec.{eqb};
 ghost use Rattle.line.specs.Choice.{bitOf, pick};
 ghost use Rattle.line.specs.Numbers.{ctrSetSlre};
-ghost use Rattle.unit.specs.Registers.{cmrRefusal, commanded, ctrRefusal, flgByte, lorCopied, mcrListed};
-ghost use Rattle.unit.specs.Registers.{mcrWritten, rcrByte, readRefusal, readValue, requestRefusal, requested};
-ghost use Rattle.unit.specs.Registers.{strByte, tbfRefusal, uar1Written, uarRefusal, writeRefusal, written};
-ghost use Rattle.unit.specs.Set.{registers·lor1, registers·lor2, registers·own, registers·slave};
-ghost use Rattle.unit.specs.Set.{registers·slre, registers·strq};
-use crate::state::Registers;
+ghost use Rattle.rules.specs.Registers.{cmrRefusal, commanded, ctrRefusal, flgByte, lorCopied, mcrListed};
+ghost use Rattle.rules.specs.Registers.{mcrWritten, rcrByte, readRefusal, readValue, requestRefusal, requested};
+ghost use Rattle.rules.specs.Registers.{strByte, tbfRefusal, uar1Written, uarRefusal, writeRefusal, written};
+ghost use Rattle.rules.specs.Set.{registers·lor1, registers·lor2, registers·own, registers·slave};
+ghost use Rattle.rules.specs.Set.{registers·slre, registers·strq};
 use frame::writes;
 use line::numbers::CMR_CLEAR_SLRE;
 use line::numbers::CMR_COPY_LOCK;
@@ -44,6 +43,7 @@ use line::numbers::REG_TBF;
 use line::numbers::REG_UAR1;
 use line::numbers::REG_UAR2;
 use line::numbers::TBF_BYTES;
+use rules::state::Registers;
 
 // "CTR (00H nothing, 08H reset, 10H set SLRE)".
 fn ctr_refusal(v: u8) -> u8

@@ -1,19 +1,19 @@
 // What a slot does to the scalars of a unit, and to its buffers.
 ghost use mathlib.Core.Path.{_≡_};
-ghost use Rattle.unit.specs.Slots.{byteDrawn, coreDrive, countOf, counted, headerOf, lastAcked, lengthDrawn};
-ghost use Rattle.unit.specs.Slots.{nextDrawn, onAddressed, onByteAcked, onControlAcked, onEvent, onIdle};
-ghost use Rattle.unit.specs.Slots.{onLengthAcked, onLevel, onLost, onStart, otherParty, receptionBegun};
-ghost use Rattle.unit.specs.Slots.{sendingBegun, wanted, withCode, withCount};
+ghost use Rattle.rules.specs.Slots.{byteDrawn, coreDrive, countOf, counted, headerOf, lastAcked, lengthDrawn};
+ghost use Rattle.rules.specs.Slots.{nextDrawn, onAddressed, onByteAcked, onControlAcked, onEvent, onIdle};
+ghost use Rattle.rules.specs.Slots.{onLengthAcked, onLevel, onLost, onStart, otherParty, receptionBegun};
+ghost use Rattle.rules.specs.Slots.{sendingBegun, wanted, withCode, withCount};
 use crate::endings::cut;
 use crate::endings::draws_bytes;
 use crate::endings::ended;
 use crate::endings::left;
 use crate::endings::reception_code;
 use crate::endings::request_ended;
-use crate::state::Act;
-use crate::state::Acted;
-use crate::state::Core;
-use crate::state::Seen;
+use crate::state::acting;
+use crate::state::own_byte;
+use crate::state::takes_part;
+use crate::state::view;
 use frame::place::Event;
 use frame::place::Frame;
 use frame::place::Place;
@@ -22,6 +22,10 @@ use line::numbers::CODE_SENDING;
 use line::numbers::CODE_WANTED;
 use line::numbers::DRIVE_RELEASED;
 use line::numbers::DRIVE_START;
+use rules::state::Act;
+use rules::state::Acted;
+use rules::state::Core;
+use rules::state::Seen;
 
 // "A start slot always begins a frame", from the state that the old frame's end left.
 pub(crate) fn on_start(core: Core, clear: bool) -> Acted
@@ -30,7 +34,7 @@ pub(crate) fn on_start(core: Core, clear: bool) -> Acted
     let mut after = cut(core);
     let mut rest = after.core;
     let regs = rest.regs;
-    let begun = Frame::begun(regs.takes_part(clear), regs.long);
+    let begun = Frame::begun(takes_part(regs, clear), regs.long);
     rest.frame = begun;
     rest.idle = false;
     after.core = rest;
@@ -53,7 +57,7 @@ fn on_lost(mut core: Core) -> Acted
     if regs.losses < regs.retries {
         let losses = regs.losses + 1;
         core.regs.losses = losses;
-        return core.acting(Act::Nothing);
+        return acting(core, Act::Nothing);
     }
     request_ended(core, false)
 }
@@ -103,7 +107,7 @@ fn length_drawn(mut core: Core, front: u8) -> Acted
     let frame = core.frame;
     let drawn = frame.with_length(front);
     core.frame = drawn;
-    core.acting(Act::Take)
+    acting(core, Act::Take)
 }
 
 // The length field begins: of TBF, or "length 1 and the status byte".
@@ -117,9 +121,9 @@ fn on_control_acked(mut core: Core, seen: Seen) -> Acted
     if frame.sends {
         let fixed = frame.with_length(1);
         core.frame = fixed;
-        return core.acting(Act::Nothing);
+        return acting(core, Act::Nothing);
     }
-    core.acting(Act::Nothing)
+    acting(core, Act::Nothing)
 }
 
 // "Wanted comes when TBF is then empty with bytes to follow".
@@ -135,9 +139,9 @@ fn byte_drawn(mut core: Core, seen: Seen) -> Acted
     let wanted = data_wanted(core.frame, seen);
     core.frame.byte = seen.front;
     if wanted {
-        return with_code(core, CODE_WANTED).acting(Act::Take);
+        return acting(with_code(core, CODE_WANTED), Act::Take);
     }
-    core.acting(Act::Take)
+    acting(core, Act::Take)
 }
 
 fn other_party(frame: Frame) -> u16
@@ -193,7 +197,7 @@ fn reception_begun(core: Core) -> Acted
 {
     let frame = core.frame;
     let act = header(frame);
-    with_count(with_code(core, reception_code(frame)), 3).acting(act)
+    acting(with_count(with_code(core, reception_code(frame)), 3), act)
 }
 
 // The first data field begins.
@@ -206,9 +210,9 @@ fn on_length_acked(mut core: Core, seen: Seen) -> Acted
     }
     if frame.sends {
         let regs = core.regs;
-        let byte = regs.own_byte(frame.control, seen.clear);
+        let byte = own_byte(regs, frame.control, seen.clear);
         core.frame.byte = byte;
-        return core.acting(Act::Nothing);
+        return acting(core, Act::Nothing);
     }
     reception_begun(core)
 }
@@ -240,9 +244,9 @@ fn on_byte_acked(core: Core, byte: u8, seen: Seen) -> Acted
         return next_drawn(core, seen);
     }
     if frame.sends {
-        return core.acting(Act::Nothing);
+        return acting(core, Act::Nothing);
     }
-    count_more(core).acting(Act::Byte(byte))
+    acting(count_more(core), Act::Byte(byte))
 }
 
 // The frame ends with a byte ACKed, the last one or not. The frame is as it was before it ended.
@@ -255,7 +259,7 @@ fn last_acked(core: Core, byte: u8, whole: bool) -> Acted
     }
     let after = ended(count_more(core), whole);
     let rest = after.core;
-    rest.acting(Act::Byte(byte))
+    acting(rest, Act::Byte(byte))
 }
 
 // What an event brings about, from the unit before the slot and the frame after it.
@@ -267,9 +271,9 @@ fn on_event(event: Event, core: Core, next: Frame, seen: Seen) -> Acted
     let mut moved = core;
     moved.frame = next;
     match event {
-        Event::Nothing => moved.acting(Act::Nothing),
+        Event::Nothing => acting(moved, Act::Nothing),
         Event::Lost => on_lost(moved),
-        Event::Addressed => on_addressed(moved).acting(Act::Nothing),
+        Event::Addressed => acting(on_addressed(moved), Act::Nothing),
         Event::ControlAcked => on_control_acked(moved, seen),
         Event::LengthAcked => on_length_acked(moved, seen),
         Event::ByteAcked => on_byte_acked(moved, byte, seen),
@@ -283,7 +287,7 @@ pub(crate) fn on_level(mut core: Core, bit: bool, seen: Seen) -> Acted
     ensures { λ r. ⌜ r ≡ onLevel core bit seen ⌝ }
 {
     let regs = core.regs;
-    let view = regs.view(seen.clear);
+    let view = view(regs, seen.clear);
     let moved = frame::level(core.frame, bit, view);
     let next = moved.frame;
     let event = moved.event;
@@ -302,11 +306,11 @@ pub(crate) fn core_drive(core: Core, clear: bool) -> u8
     let place = spot.place;
     match place {
         Place::Waiting => {
-            if core.idle & regs.takes_part(clear) {
+            if core.idle & takes_part(regs, clear) {
                 return DRIVE_START;
             }
             DRIVE_RELEASED
         }
-        Place::In(_, _) => frame::drive(frame, regs.view(clear)) as u8,
+        Place::In(_, _) => frame::drive(frame, view(regs, clear)) as u8,
     }
 }

@@ -2,10 +2,9 @@
 ghost use mathlib.Core.Path.{_≡_};
 ghost use Rattle.unit.specs.Both.{Acts, Clashes, Drives, Fresh, Runs, Sees, SlotActs, SlotRefuses, SlotsOn};
 ghost use Rattle.unit.specs.Both.{Works, done, stateOf};
-ghost use Rattle.unit.specs.Refusals.{Ruled};
-ghost use Rattle.unit.specs.State.{reset};
-ghost use Rattle.unit.specs.Step.{answerOf, stepOf};
-use crate::answer::Answer;
+ghost use Rattle.rules.specs.Refusals.{Ruled};
+ghost use Rattle.rules.specs.State.{reset};
+ghost use Rattle.rules.specs.Step.{answerOf, stepOf};
 use crate::answer::Outcome;
 use crate::answer::answer_to;
 use crate::buffers::Rbf;
@@ -19,10 +18,7 @@ use crate::slots::core_drive;
 use crate::slots::on_idle;
 use crate::slots::on_level;
 use crate::slots::on_start;
-use crate::state::Act;
-use crate::state::Acted;
-use crate::state::Core;
-use crate::state::Seen;
+use crate::state::reset_core;
 use line::numbers::DRIVE_LOW;
 use line::numbers::KIND_SLOT;
 use line::numbers::RBF_BYTES;
@@ -32,6 +28,11 @@ use line::numbers::SLOT_HIGH;
 use line::numbers::TBF_BYTES;
 use line::slot::Slot;
 use line::slot::slot_of;
+use rules::answer::Answer;
+use rules::state::Act;
+use rules::state::Acted;
+use rules::state::Core;
+use rules::state::Seen;
 
 // All of a unit but the bytes of its buffers, which are lent.
 pub struct Lent {
@@ -71,7 +72,7 @@ impl Lent {
     pub fn reset() -> Lent
         ensures { λ r. ⌜ Fresh r ⌝ }
     {
-        let core = Core::reset();
+        let core = reset_core();
         let tbf = Span::none();
         let rbf = Span::none();
         Lent { core, tbf, rbf }
@@ -209,7 +210,7 @@ impl Unit {
     pub fn reset() -> Unit
         ensures { λ r. ⌜ stateOf r ≡ reset ⌝ }
     {
-        let core = Core::reset();
+        let core = reset_core();
         let tbf = Tbf::new();
         let rbf = Rbf::new();
         Unit { core, tbf, rbf }

@@ -3,7 +3,7 @@ use Prim.Native.Nat.{ℕ, _-_}
 use native.Mathlib.Omega.{arith}
 use lib.ListN.{length, take, replicate}
 use Rattle.list_run.specs.Bytes.{bytesAfter}
-use Rattle.unit.specs.State.{reset}
+use Rattle.rules.specs.State.{reset}
 use Rattle.text.specs.Last.{mostBytes}
 use Rattle.listing.specs.Printed.{answeredOf, printedOf, wholeWords}
 use borrow.Author.Needs.{needs}

@@ -1,6 +1,6 @@
 use borrow.Author.Needs.{needs}
 use mathlib.Core.Path.{_∙_}
-use Rattle.unit.proofs.Protects.{holds}
+use Rattle.rules.proofs.Protects.{holds}
 use Rattle.list_run.proofs.Spelled.{same-answers}
 use Rattle.list_run.proofs.bytes.iebus_run.Statement.{statement}
 use Rattle.list_run.proofs.bytes.iebus_run.Tie as tie

@@ -4,7 +4,7 @@ use mathlib.Core.Path.{sym, ap, _∙_}
 use Prim.Native.Nat.{_-_}
 use lib.ListN.{length}
 use Rattle.unit.specs.Both.{stateIn}
-use Rattle.unit.specs.Step.{wordOf}
+use Rattle.rules.specs.Step.{wordOf}
 use Rattle.list_run.proofs.Spelled.{SpelledIn, none-spelled, one-spelled-in, all-spelled}
 use Rattle.list_run.proofs.bytes.run_spelled.Statement.{statement}
 use Rattle.list_run.proofs.bytes.run_spelled.Tie as tie

@@ -1,4 +1,4 @@
-use Rattle.unit.specs.Step.{wordOf}
+use Rattle.rules.specs.Step.{wordOf}
 use borrow.Author.Needs.{needs}
 use Rattle.unit.proofs.answer.reply_word.Statement.{statement}
 use Rattle.unit.proofs.answer.reply_word.Tie as tie

@@ -1,5 +1,5 @@
 use mathlib.Core.Path.{refl, _∙_}
-use Rattle.unit.specs.State.{rbfAfter}
+use Rattle.rules.specs.State.{rbfAfter}
 use borrow.Author.Needs.{needs}
 use Rattle.unit.proofs.buffers.rbf_after.Statement.{statement}
 use Rattle.unit.proofs.buffers.rbf_after.Tie as tie

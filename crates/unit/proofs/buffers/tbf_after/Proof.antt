@@ -1,4 +1,4 @@
-use Rattle.unit.specs.State.{tbfAfter}
+use Rattle.rules.specs.State.{tbfAfter}
 use borrow.Author.Needs.{needs}
 use Rattle.unit.proofs.buffers.tbf_after.Statement.{statement}
 use Rattle.unit.proofs.buffers.tbf_after.Tie as tie

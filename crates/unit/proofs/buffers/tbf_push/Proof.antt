@@ -5,7 +5,7 @@ use mathlib.Core.Path.{refl}
 use native.Mathlib.Omega.{arith}
 use Rattle.line.specs.Numbers.{tbfBytes}
 use Rattle.unit.specs.Queue.{circleOf, startOf}
-use Rattle.unit.specs.State.{pushOf}
+use Rattle.rules.specs.State.{pushOf}
 use Rattle.unit.proofs.Circle.{items-length, circle-push, start-less, wrap-less}
 use Rattle.unit.proofs.buffers.tbf_push.Statement.{statement}
 use Rattle.unit.proofs.buffers.tbf_push.Tie as tie

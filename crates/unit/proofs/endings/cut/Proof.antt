@@ -1,4 +1,4 @@
-use Rattle.unit.specs.Endings.{cutOf}
+use Rattle.rules.specs.Endings.{cutOf}
 use borrow.Author.Needs.{needs}
 use Rattle.unit.proofs.endings.cut.Statement.{statement}
 use Rattle.unit.proofs.endings.cut.Tie as tie

@@ -1,4 +1,4 @@
-use Rattle.unit.specs.Endings.{dataEnded}
+use Rattle.rules.specs.Endings.{dataEnded}
 use borrow.Author.Needs.{needs}
 use Rattle.unit.proofs.endings.data_ended.Statement.{statement}
 use Rattle.unit.proofs.endings.data_ended.Tie as tie

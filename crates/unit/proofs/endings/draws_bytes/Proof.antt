@@ -1,4 +1,4 @@
-use Rattle.unit.specs.Endings.{draws}
+use Rattle.rules.specs.Endings.{draws}
 use borrow.Author.Needs.{needs}
 use Rattle.unit.proofs.endings.draws_bytes.Statement.{statement}
 use Rattle.unit.proofs.endings.draws_bytes.Tie as tie

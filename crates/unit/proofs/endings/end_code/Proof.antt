@@ -1,4 +1,4 @@
-use Rattle.unit.specs.Endings.{endCode}
+use Rattle.rules.specs.Endings.{endCode}
 use borrow.Author.Needs.{needs}
 use Rattle.unit.proofs.endings.end_code.Statement.{statement}
 use Rattle.unit.proofs.endings.end_code.Tie as tie

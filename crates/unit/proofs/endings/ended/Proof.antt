@@ -1,4 +1,4 @@
-use Rattle.unit.specs.Endings.{endedOf}
+use Rattle.rules.specs.Endings.{endedOf}
 use borrow.Author.Needs.{needs}
 use Rattle.unit.proofs.endings.ended.Statement.{statement}
 use Rattle.unit.proofs.endings.ended.Tie as tie

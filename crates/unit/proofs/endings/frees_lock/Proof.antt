@@ -1,4 +1,4 @@
-use Rattle.unit.specs.Endings.{frees}
+use Rattle.rules.specs.Endings.{frees}
 use borrow.Author.Needs.{needs}
 use Rattle.unit.proofs.endings.frees_lock.Statement.{statement}
 use Rattle.unit.proofs.endings.frees_lock.Tie as tie

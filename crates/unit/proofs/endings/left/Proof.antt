@@ -1,4 +1,4 @@
-use Rattle.unit.specs.Endings.{leftOf}
+use Rattle.rules.specs.Endings.{leftOf}
 use borrow.Author.Needs.{needs}
 use Rattle.unit.proofs.endings.left.Statement.{statement}
 use Rattle.unit.proofs.endings.left.Tie as tie

@@ -1,4 +1,4 @@
-use Rattle.unit.specs.Endings.{lengthEnded}
+use Rattle.rules.specs.Endings.{lengthEnded}
 use borrow.Author.Needs.{needs}
 use Rattle.unit.proofs.endings.length_ended.Statement.{statement}
 use Rattle.unit.proofs.endings.length_ended.Tie as tie

@@ -1,4 +1,4 @@
-use Rattle.unit.specs.Endings.{lockAfter}
+use Rattle.rules.specs.Endings.{lockAfter}
 use borrow.Author.Needs.{needs}
 use Rattle.unit.proofs.endings.lock_after.Statement.{statement}
 use Rattle.unit.proofs.endings.lock_after.Tie as tie

@@ -1,4 +1,4 @@
-use Rattle.unit.specs.Endings.{partEnded}
+use Rattle.rules.specs.Endings.{partEnded}
 use borrow.Author.Needs.{needs}
 use Rattle.unit.proofs.endings.part_ended.Statement.{statement}
 use Rattle.unit.proofs.endings.part_ended.Tie as tie

@@ -1,4 +1,4 @@
-use Rattle.unit.specs.Endings.{receptionCode}
+use Rattle.rules.specs.Endings.{receptionCode}
 use native.Mathlib.Omega.{arith}
 use Rattle.unit.proofs.endings.reception_code.Statement.{statement}
 use Rattle.unit.proofs.endings.reception_code.Tie as tie

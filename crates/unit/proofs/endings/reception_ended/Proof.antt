@@ -1,4 +1,4 @@
-use Rattle.unit.specs.Endings.{receptionEnded}
+use Rattle.rules.specs.Endings.{receptionEnded}
 use borrow.Author.Needs.{needs}
 use Rattle.unit.proofs.endings.reception_ended.Statement.{statement}
 use Rattle.unit.proofs.endings.reception_ended.Tie as tie

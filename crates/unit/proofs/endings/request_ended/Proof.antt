@@ -1,4 +1,4 @@
-use Rattle.unit.specs.Endings.{requestEnded}
+use Rattle.rules.specs.Endings.{requestEnded}
 use borrow.Author.Needs.{needs}
 use Rattle.unit.proofs.endings.request_ended.Statement.{statement}
 use Rattle.unit.proofs.endings.request_ended.Tie as tie

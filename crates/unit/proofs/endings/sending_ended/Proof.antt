@@ -1,4 +1,4 @@
-use Rattle.unit.specs.Endings.{sendingEnded}
+use Rattle.rules.specs.Endings.{sendingEnded}
 use borrow.Author.Needs.{needs}
 use Rattle.unit.proofs.endings.sending_ended.Statement.{statement}
 use Rattle.unit.proofs.endings.sending_ended.Tie as tie

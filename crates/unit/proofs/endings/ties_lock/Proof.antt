@@ -1,4 +1,4 @@
-use Rattle.unit.specs.Endings.{ties}
+use Rattle.rules.specs.Endings.{ties}
 use borrow.Author.Needs.{needs}
 use Rattle.unit.proofs.endings.ties_lock.Statement.{statement}
 use Rattle.unit.proofs.endings.ties_lock.Tie as tie

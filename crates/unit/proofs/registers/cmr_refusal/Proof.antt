@@ -1,4 +1,4 @@
-use Rattle.unit.specs.Registers.{cmrRefusal}
+use Rattle.rules.specs.Registers.{cmrRefusal}
 use borrow.Author.Needs.{needs}
 use Rattle.unit.proofs.registers.cmr_refusal.Statement.{statement}
 use Rattle.unit.proofs.registers.cmr_refusal.Tie as tie

@@ -1,4 +1,4 @@
-use Rattle.unit.specs.Registers.{commanded}
+use Rattle.rules.specs.Registers.{commanded}
 use borrow.Author.Tests.{eq-eqb, ne-eqb}
 use borrow.Author.Needs.{needs}
 use Rattle.unit.proofs.registers.command.Statement.{statement}

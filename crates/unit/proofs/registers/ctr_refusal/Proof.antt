@@ -1,4 +1,4 @@
-use Rattle.unit.specs.Registers.{ctrRefusal}
+use Rattle.rules.specs.Registers.{ctrRefusal}
 use Rattle.unit.proofs.registers.ctr_refusal.Statement.{statement}
 use Rattle.unit.proofs.registers.ctr_refusal.Tie as tie
 

@@ -1,5 +1,5 @@
 use Prim.Native.Nat.{_≤_}
-use Rattle.unit.specs.Registers.{flgByte}
+use Rattle.rules.specs.Registers.{flgByte}
 use mathlib.Core.Bool.{Bool, true, false}
 use mir.Val.{boolByte}
 use native.Mathlib.Omega.{arith}

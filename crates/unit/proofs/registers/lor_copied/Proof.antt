@@ -1,4 +1,4 @@
-use Rattle.unit.specs.Registers.{lorCopied}
+use Rattle.rules.specs.Registers.{lorCopied}
 use borrow.Author.Needs.{needs}
 use Rattle.unit.proofs.registers.lor_copied.Statement.{statement}
 use Rattle.unit.proofs.registers.lor_copied.Tie as tie

@@ -1,4 +1,4 @@
-use Rattle.unit.specs.Registers.{mcrListed}
+use Rattle.rules.specs.Registers.{mcrListed}
 use borrow.Author.Needs.{needs}
 use Rattle.unit.proofs.registers.mcr_listed.Statement.{statement}
 use Rattle.unit.proofs.registers.mcr_listed.Tie as tie

@@ -1,4 +1,4 @@
-use Rattle.unit.specs.Registers.{mcrWritten}
+use Rattle.rules.specs.Registers.{mcrWritten}
 use borrow.Author.Needs.{needs}
 use Rattle.unit.proofs.registers.mcr_written.Statement.{statement}
 use Rattle.unit.proofs.registers.mcr_written.Tie as tie

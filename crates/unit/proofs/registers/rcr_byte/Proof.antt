@@ -1,4 +1,4 @@
-use Rattle.unit.specs.Registers.{rcrByte}
+use Rattle.rules.specs.Registers.{rcrByte}
 use borrow.Author.Needs.{needs}
 use Rattle.unit.proofs.registers.rcr_byte.Statement.{statement}
 use Rattle.unit.proofs.registers.rcr_byte.Tie as tie

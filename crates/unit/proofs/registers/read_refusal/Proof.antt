@@ -1,4 +1,4 @@
-use Rattle.unit.specs.Registers.{readRefusal}
+use Rattle.rules.specs.Registers.{readRefusal}
 use borrow.Author.Tests.{eq-eqb, ne-eqb}
 use Rattle.unit.proofs.registers.read_refusal.Statement.{statement}
 use Rattle.unit.proofs.registers.read_refusal.Tie as tie

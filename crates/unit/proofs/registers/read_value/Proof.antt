@@ -1,4 +1,4 @@
-use Rattle.unit.specs.Registers.{readValue}
+use Rattle.rules.specs.Registers.{readValue}
 use borrow.Author.Tests.{ne-eqb}
 use borrow.Author.Needs.{needs}
 use Rattle.unit.proofs.registers.read_value.Statement.{statement}

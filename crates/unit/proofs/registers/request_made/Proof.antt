@@ -1,4 +1,4 @@
-use Rattle.unit.specs.Registers.{requested}
+use Rattle.rules.specs.Registers.{requested}
 use borrow.Author.Needs.{needs}
 use Rattle.unit.proofs.registers.request_made.Statement.{statement}
 use Rattle.unit.proofs.registers.request_made.Tie as tie

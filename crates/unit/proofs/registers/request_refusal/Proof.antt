@@ -1,4 +1,4 @@
-use Rattle.unit.specs.Registers.{requestRefusal}
+use Rattle.rules.specs.Registers.{requestRefusal}
 use Rattle.unit.proofs.registers.request_refusal.Statement.{statement}
 use Rattle.unit.proofs.registers.request_refusal.Tie as tie
 

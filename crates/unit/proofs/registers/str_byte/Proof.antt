@@ -1,4 +1,4 @@
-use Rattle.unit.specs.Registers.{strByte}
+use Rattle.rules.specs.Registers.{strByte}
 use borrow.Author.Needs.{needs}
 use Rattle.unit.proofs.registers.str_byte.Statement.{statement}
 use Rattle.unit.proofs.registers.str_byte.Tie as tie

@@ -1,4 +1,4 @@
-use Rattle.unit.specs.Registers.{tbfRefusal}
+use Rattle.rules.specs.Registers.{tbfRefusal}
 use borrow.Author.Tests.{le-leb, lt-leb}
 use Rattle.unit.proofs.registers.tbf_refusal.Statement.{statement}
 use Rattle.unit.proofs.registers.tbf_refusal.Tie as tie

@@ -1,4 +1,4 @@
-use Rattle.unit.specs.Registers.{uar1Written}
+use Rattle.rules.specs.Registers.{uar1Written}
 use borrow.Author.Needs.{needs}
 use Rattle.unit.proofs.registers.uar1_written.Statement.{statement}
 use Rattle.unit.proofs.registers.uar1_written.Tie as tie

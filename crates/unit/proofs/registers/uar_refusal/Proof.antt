@@ -1,4 +1,4 @@
-use Rattle.unit.specs.Registers.{uarRefusal}
+use Rattle.rules.specs.Registers.{uarRefusal}
 use Rattle.unit.proofs.registers.uar_refusal.Statement.{statement}
 use Rattle.unit.proofs.registers.uar_refusal.Tie as tie
 

@@ -1,4 +1,4 @@
-use Rattle.unit.specs.Registers.{written}
+use Rattle.rules.specs.Registers.{written}
 use borrow.Author.Tests.{ne-eqb}
 use borrow.Author.Needs.{needs}
 use Rattle.unit.proofs.registers.write.Statement.{statement}

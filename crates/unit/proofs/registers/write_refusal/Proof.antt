@@ -1,4 +1,4 @@
-use Rattle.unit.specs.Registers.{writeRefusal}
+use Rattle.rules.specs.Registers.{writeRefusal}
 use borrow.Author.Tests.{ne-eqb}
 use borrow.Author.Needs.{needs}
 use Rattle.unit.proofs.registers.write_refusal.Statement.{statement}

@@ -1,4 +1,4 @@
-use Rattle.unit.specs.Slots.{byteDrawn}
+use Rattle.rules.specs.Slots.{byteDrawn}
 use borrow.Author.Needs.{needs}
 use Rattle.unit.proofs.slots.byte_drawn.Statement.{statement}
 use Rattle.unit.proofs.slots.byte_drawn.Tie as tie

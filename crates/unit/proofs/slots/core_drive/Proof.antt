@@ -1,4 +1,4 @@
-use Rattle.unit.specs.Slots.{coreDrive}
+use Rattle.rules.specs.Slots.{coreDrive}
 use borrow.Author.Needs.{needs}
 use Rattle.unit.proofs.slots.core_drive.Statement.{statement}
 use Rattle.unit.proofs.slots.core_drive.Tie as tie

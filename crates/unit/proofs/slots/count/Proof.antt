@@ -1,4 +1,4 @@
-use Rattle.unit.specs.Slots.{countOf}
+use Rattle.rules.specs.Slots.{countOf}
 use Rattle.unit.proofs.slots.count.Statement.{statement}
 use Rattle.unit.proofs.slots.count.Tie as tie
 

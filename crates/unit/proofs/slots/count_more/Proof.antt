@@ -1,4 +1,4 @@
-use Rattle.unit.specs.Slots.{counted}
+use Rattle.rules.specs.Slots.{counted}
 use borrow.Author.Needs.{needs}
 use Rattle.unit.proofs.slots.count_more.Statement.{statement}
 use Rattle.unit.proofs.slots.count_more.Tie as tie

@@ -1,4 +1,4 @@
-use Rattle.unit.specs.Slots.{wanted}
+use Rattle.rules.specs.Slots.{wanted}
 use Rattle.frame.specs.Step as step
 use borrow.Author.Needs.{needs}
 use Rattle.unit.proofs.slots.data_wanted.Statement.{statement}

@@ -1,4 +1,4 @@
-use Rattle.unit.specs.Slots.{headerOf}
+use Rattle.rules.specs.Slots.{headerOf}
 use borrow.Author.Needs.{needs}
 use Rattle.unit.proofs.slots.header.Statement.{statement}
 use Rattle.unit.proofs.slots.header.Tie as tie

@@ -1,4 +1,4 @@
-use Rattle.unit.specs.Slots.{lastAcked}
+use Rattle.rules.specs.Slots.{lastAcked}
 use borrow.Author.Needs.{needs}
 use Rattle.unit.proofs.slots.last_acked.Statement.{statement}
 use Rattle.unit.proofs.slots.last_acked.Tie as tie

@@ -1,4 +1,4 @@
-use Rattle.unit.specs.Slots.{lengthDrawn}
+use Rattle.rules.specs.Slots.{lengthDrawn}
 use borrow.Author.Needs.{needs}
 use Rattle.unit.proofs.slots.length_drawn.Statement.{statement}
 use Rattle.unit.proofs.slots.length_drawn.Tie as tie

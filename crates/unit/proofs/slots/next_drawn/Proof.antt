@@ -1,4 +1,4 @@
-use Rattle.unit.specs.Slots.{nextDrawn}
+use Rattle.rules.specs.Slots.{nextDrawn}
 use borrow.Author.Tests.{eq-eqb, ne-eqb}
 use borrow.Author.Needs.{needs}
 use Rattle.unit.proofs.slots.next_drawn.Statement.{statement}

@@ -1,4 +1,4 @@
-use Rattle.unit.specs.Slots.{onAddressed}
+use Rattle.rules.specs.Slots.{onAddressed}
 use borrow.Author.Needs.{needs}
 use Rattle.unit.proofs.slots.on_addressed.Statement.{statement}
 use Rattle.unit.proofs.slots.on_addressed.Tie as tie

@@ -1,4 +1,4 @@
-use Rattle.unit.specs.Slots.{onByteAcked}
+use Rattle.rules.specs.Slots.{onByteAcked}
 use borrow.Author.Needs.{needs}
 use Rattle.unit.proofs.slots.on_byte_acked.Statement.{statement}
 use Rattle.unit.proofs.slots.on_byte_acked.Tie as tie

@@ -1,4 +1,4 @@
-use Rattle.unit.specs.Slots.{onControlAcked}
+use Rattle.rules.specs.Slots.{onControlAcked}
 use borrow.Author.Needs.{needs}
 use Rattle.unit.proofs.slots.on_control_acked.Statement.{statement}
 use Rattle.unit.proofs.slots.on_control_acked.Tie as tie

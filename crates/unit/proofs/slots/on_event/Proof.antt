@@ -1,4 +1,4 @@
-use Rattle.unit.specs.Slots.{onEvent}
+use Rattle.rules.specs.Slots.{onEvent}
 use borrow.Author.Needs.{needs}
 use Rattle.unit.proofs.slots.on_event.Statement.{statement}
 use Rattle.unit.proofs.slots.on_event.Tie as tie

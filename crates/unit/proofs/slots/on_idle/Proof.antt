@@ -1,4 +1,4 @@
-use Rattle.unit.specs.Slots.{onIdle}
+use Rattle.rules.specs.Slots.{onIdle}
 use borrow.Author.Needs.{needs}
 use Rattle.unit.proofs.slots.on_idle.Statement.{statement}
 use Rattle.unit.proofs.slots.on_idle.Tie as tie

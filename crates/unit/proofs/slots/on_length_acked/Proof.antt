@@ -1,4 +1,4 @@
-use Rattle.unit.specs.Slots.{onLengthAcked}
+use Rattle.rules.specs.Slots.{onLengthAcked}
 use borrow.Author.Needs.{needs}
 use Rattle.unit.proofs.slots.on_length_acked.Statement.{statement}
 use Rattle.unit.proofs.slots.on_length_acked.Tie as tie

@@ -1,4 +1,4 @@
-use Rattle.unit.specs.Slots.{onLevel}
+use Rattle.rules.specs.Slots.{onLevel}
 use borrow.Author.Needs.{needs}
 use Rattle.unit.proofs.slots.on_level.Statement.{statement}
 use Rattle.unit.proofs.slots.on_level.Tie as tie

@@ -1,4 +1,4 @@
-use Rattle.unit.specs.Slots.{onLost}
+use Rattle.rules.specs.Slots.{onLost}
 use borrow.Author.Tests.{lt-ltb, le-ltb}
 use borrow.Author.Needs.{needs}
 use Rattle.unit.proofs.slots.on_lost.Statement.{statement}

@@ -1,4 +1,4 @@
-use Rattle.unit.specs.Slots.{begun, onStart}
+use Rattle.rules.specs.Slots.{begun, onStart}
 use borrow.Author.Needs.{needs}
 use Rattle.unit.proofs.slots.on_start.Statement.{statement}
 use Rattle.unit.proofs.slots.on_start.Tie as tie

@@ -1,4 +1,4 @@
-use Rattle.unit.specs.Slots.{otherParty}
+use Rattle.rules.specs.Slots.{otherParty}
 use Rattle.unit.proofs.slots.other_party.Statement.{statement}
 use Rattle.unit.proofs.slots.other_party.Tie as tie
 

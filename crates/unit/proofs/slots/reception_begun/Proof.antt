@@ -1,4 +1,4 @@
-use Rattle.unit.specs.Slots.{receptionBegun}
+use Rattle.rules.specs.Slots.{receptionBegun}
 use borrow.Author.Needs.{needs}
 use Rattle.unit.proofs.slots.reception_begun.Statement.{statement}
 use Rattle.unit.proofs.slots.reception_begun.Tie as tie

@@ -1,4 +1,4 @@
-use Rattle.unit.specs.Slots.{sendingBegun}
+use Rattle.rules.specs.Slots.{sendingBegun}
 use Rattle.unit.proofs.slots.sending_begun.Statement.{statement}
 use Rattle.unit.proofs.slots.sending_begun.Tie as tie
 

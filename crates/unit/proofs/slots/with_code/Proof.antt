@@ -1,4 +1,4 @@
-use Rattle.unit.specs.Slots.{withCode}
+use Rattle.rules.specs.Slots.{withCode}
 use Rattle.unit.proofs.slots.with_code.Statement.{statement}
 use Rattle.unit.proofs.slots.with_code.Tie as tie
 

@@ -1,4 +1,4 @@
-use Rattle.unit.specs.Slots.{withCount}
+use Rattle.rules.specs.Slots.{withCount}
 use Rattle.unit.proofs.slots.with_count.Statement.{statement}
 use Rattle.unit.proofs.slots.with_count.Tie as tie
 

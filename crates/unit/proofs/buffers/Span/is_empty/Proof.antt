@@ -2,7 +2,7 @@ use borrow.Author.Needs.{needs}
 use mathlib.Core.Path.{ap}
 use lib.Dec.{eqb}
 use Prim.Native.Nat.{ℕ}
-use Rattle.unit.specs.State.{isEmpty}
+use Rattle.rules.specs.State.{isEmpty}
 use Rattle.unit.proofs.buffers.Span.is_empty.Statement.{statement}
 use Rattle.unit.proofs.buffers.Span.is_empty.Tie as tie
 

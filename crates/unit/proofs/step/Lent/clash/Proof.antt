@@ -1,5 +1,5 @@
 use mathlib.Core.Path.{refl}
-use Rattle.unit.specs.Step.{clashes}
+use Rattle.rules.specs.Step.{clashes}
 use borrow.Author.Needs.{needs}
 use Rattle.unit.proofs.step.Lent.clash.Statement.{statement}
 use Rattle.unit.proofs.step.Lent.clash.Tie as tie

@@ -1,4 +1,4 @@
-use Rattle.unit.specs.Step.{nextDrive}
+use Rattle.rules.specs.Step.{nextDrive}
 use borrow.Author.Needs.{needs}
 use Rattle.unit.proofs.step.Lent.drive.Statement.{statement}
 use Rattle.unit.proofs.step.Lent.drive.Tie as tie

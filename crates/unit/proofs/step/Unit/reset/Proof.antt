@@ -9,4 +9,4 @@ reset-spec =
     (λ c κs. search needs)
     (λ c κs. search needs)
     (λ c κs. search needs)
-    (λ c. simp (c .new2 .ensures, c .before .new .ensures, c .before .before .reset .ensures)))
+    (λ c. simp (c .new2 .ensures, c .before .new .ensures, c .before .before .reset-core .ensures)))

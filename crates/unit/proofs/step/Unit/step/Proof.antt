@@ -1,5 +1,5 @@
 use borrow.Author.Needs.{needs}
-use Rattle.unit.proofs.Ruled.{ruled}
+use Rattle.rules.proofs.Ruled.{ruled}
 use Rattle.unit.proofs.step.Unit.step.Statement.{statement}
 use Rattle.unit.proofs.step.Unit.step.Tie as tie
 

@@ -1,0 +1,9 @@
+-- Demand 3 over the definitions, then demand 1 and what is said of the lock.
+pub mod Answers
+pub mod Calm
+pub mod Strangers
+pub mod Protects
+pub mod Ruled
+pub mod Locks
+pub mod Example
+pub mod Asked
