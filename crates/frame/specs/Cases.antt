@@ -1,11 +1,10 @@
 -- The marked cases of this layer, added to those of the line: lengths, and whole frames run slot by slot.
-use mathlib.Core.Bool.{Bool, true, false}
+use mathlib.Core.Bool.{true, false}
 use mathlib.Core.Path.{_≡_, refl}
-use mathlib.Core.List.{List, [], _∷_, _++_, map}
+use mathlib.Core.List.{List, [], _∷_, _++_}
 use Prim.Native.Nat.{ℕ, zero, suc, _+_}
 use lib.Count.{ones, onesIn}
 use lib.Dec.{eqb}
-use lib.ListN.{replicate}
 use Rattle.line.specs.Cases.{Case, _gives_, allGiven, lineCases}
 use Rattle.line.specs.Contest.{numberOf, settled, remaining, lossOf, lossesOf, firstPlace}
 use Rattle.line.specs.Parity.{levelsOf, parityOf, parityHolds}

@@ -1,6 +1,6 @@
 -- What a unit drives in the next slot inside a frame, as a level.
 use Prim.Native.Nat.{ℕ, _-_, _%_}
-use mathlib.Core.Bool.{Bool, true, false, not, _||_}
+use mathlib.Core.Bool.{Bool, true, not, _||_}
 use lib.Dec.{eqb, ltb, leb}
 use Rattle.line.specs.Choice.{pick}
 use Rattle.line.specs.Parity.{levelOf, parityOf}

@@ -1,6 +1,6 @@
 -- Document 01, "Frame": the place of a unit in a frame, and what it keeps of the frame under way.
 use Prim.Native.Nat.{ℕ, _+_, _*_, _%_}
-use mathlib.Core.Bool.{Bool, true, false}
+use mathlib.Core.Bool.{Bool, false}
 use lib.Dec.{eqb}
 use Rattle.line.specs.Choice.{pick, bitOf, _▹_}
 use Rattle.line.specs.Numbers.{attemptsMode0, attemptsMode1, lengthOfZero}
@@ -8,7 +8,6 @@ use Rattle.frame.specs.Set.{frame·spot, frame·shift, frame·leads, fra
 use Rattle.frame.specs.declared.place.Field.{Field}
 use Rattle.frame.specs.declared.place.Field.the-variants.{Broadcast, Master, Slave, Control, Length, Data}
 use Rattle.frame.specs.declared.place.Frame.{Frame}
-use Rattle.frame.specs.declared.place.Place.{Place}
 use Rattle.frame.specs.declared.place.Place.the-variants.{Waiting, In}
 use Rattle.frame.specs.declared.place.Spot.{Spot}
 

@@ -2,7 +2,7 @@
 -- judgement is made with the P slot's word, from the state then, and later host words do not change it." "What an ACK
 -- brings, stored bytes included, comes with the A slot's word. A field begins with the word of the slot before it."
 use Prim.Native.Nat.{ℕ, _+_, _%_}
-use mathlib.Core.Bool.{Bool, true, false, not, _&&_, _||_, Bool·beq}
+use mathlib.Core.Bool.{Bool, true, not, _&&_, _||_, Bool·beq}
 use lib.Dec.{eqb, ltb, leb}
 use Rattle.line.specs.Choice.{pick, _▹_}
 use Rattle.line.specs.Parity.{parityHolds}

@@ -1,12 +1,12 @@
 -- What is asked of a machine, word by word, so that the holder of its lock is protected. `keep` is all of the state
 -- but what belongs to the frame under way; `calm s bs`: the unit is in a frame that is not h's, of which the levels
 -- bs are still to come.
-use mathlib.Core.Bool.{Bool, true, false}
+use mathlib.Core.Bool.{Bool, false}
 use mathlib.Core.Path.{_≡_}
 use mathlib.Core.List.{List, [], _∷_}
 use Prim.Native.Nat.{ℕ}
 use lib.ListN.{drop}
-use Rattle.line.specs.Slot.{Class, slot, host, classOf}
+use Rattle.line.specs.Slot.{slot, host, classOf}
 use Rattle.line.specs.declared.slot.Slot.the-variants.{Level, Start, Idle, Stray}
 use Rattle.isolation.specs.Words.{spells}
 use Rattle.isolation.specs.Runs.{Machine, shown, latest}

@@ -17,7 +17,7 @@ use Rattle.list_run.specs.Bytes.{CalledBytes, byteRefusal, bytesAfter, bytesOf,
 use Rattle.list_run.proofs.Alike.{AlikeIn, answers-alike}
 use Rattle.list_run.proofs.Called.{answers-length, answers-spelled}
 use Rattle.list_run.proofs.Spelled.{taken-whole}
-use Rattle.lasting.specs.Calls.{Ran, Reset, resetBytes, resetState, runAnswers, runBytes, runRefusal}
+use Rattle.lasting.specs.Calls.{Ran, Reset, resetState, runAnswers, runBytes, runRefusal}
 use Rattle.lasting.specs.Calls.{runState, sizeRefusal}
 use Rattle.lasting.specs.Decode.{decode}
 use Rattle.lasting.specs.Encode.{encode}

@@ -1,7 +1,7 @@
 -- Levels of a field: what one slot says of a number, and the number that the slots before it have said.
-use mathlib.Core.Path.{_≡_, refl, sym, ap, _∙_}
-use Prim.Native.Nat.{ℕ, zero, suc, _+_, _*_, _/_, _%_, _^_, _≤_, _<_}
-use native.Mathlib.Nat.{div-div-eq-div-mul, div-mul-le-self, div-one, le-div-iff-mul-le, le-trans, pow-suc}
+use mathlib.Core.Path.{_≡_, sym, ap, _∙_}
+use Prim.Native.Nat.{ℕ, suc, _+_, _*_, _/_, _^_, _≤_}
+use native.Mathlib.Nat.{div-div-eq-div-mul, div-mul-le-self, le-div-iff-mul-le, le-trans, pow-suc}
 use native.Mathlib.Omega.{arith}
 use lib.Pow.{pow-pos}
 use Rattle.line.specs.Parity.{levelOf}

@@ -1,8 +1,7 @@
 -- Answers as words: the drive bits of each, and what two answers to one host word share.
-use mathlib.Core.Path.{_≡_, refl}
-use Prim.Native.Nat.{ℕ, _+_, _*_, _/_, _%_}
+use mathlib.Core.Path.{_≡_}
+use Prim.Native.Nat.{ℕ, _%_}
 use native.Mathlib.Omega.{arith}
-use Rattle.line.specs.Numbers.{kindRefused}
 use Rattle.line.specs.Slot.{host, kindOf}
 use Rattle.isolation.specs.Runs.{shown, latest}
 use Rattle.rules.specs.Step.{wordOf}

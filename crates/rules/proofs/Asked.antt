@@ -1,6 +1,6 @@
 -- What an auditor asks next, said of the unit: nothing of a stranger's frame is seen in buffers, lock or codes, and the
 -- lock goes on as long in both lists.
-use mathlib.Core.Bool.{Bool, true, false}
+use mathlib.Core.Bool.{true, false}
 use mathlib.Core.Path.{_≡_, sym, ap, _∙_}
 use mathlib.Core.List.{List, map}
 use Prim.Native.Nat.{ℕ, suc}

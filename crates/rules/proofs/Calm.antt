@@ -1,15 +1,13 @@
 -- A stranger's frame at a locked unit: what it may come to at each place, and that it ends without a trace.
-use mathlib.Core.Bool.{Bool, true, false, not, _&&_, _||_, Bool·beq}
+use mathlib.Core.Bool.{Bool, true, false, not, _&&_, _||_}
 use mathlib.Core.Logic.{_⊎_, inl, inr, ⊎-elim}
 use mathlib.Core.Path.{_≡_, refl, sym, ap, ap₂, _∙_, subst}
-use mathlib.Core.List.{List, [], _∷_}
-use Prim.Native.Nat.{ℕ, zero, suc, _+_, _-_, _*_, _%_, _^_, _≤_, _<_}
-use native.Mathlib.Omega.{arith}
-use borrow.Author.Tests.{eqb-true, eqb-false, eq-eqb, ne-eqb, ltb-true, ltb-false}
-use lib.Dec.{T, eqb, ltb, leb}
+use mathlib.Core.List.{List}
+use Prim.Native.Nat.{ℕ, _-_, _^_, _≤_, _<_}
+use borrow.Author.Tests.{eqb-true}
+use lib.Dec.{T, eqb}
 use lib.ListN.{drop}
-use lib.Pow.{pow-mono}
-use Rattle.line.specs.Choice.{pick, bitOf, _▹_}
+use Rattle.line.specs.Choice.{pick}
 use Rattle.line.proofs.Either.{either}
 use Rattle.frame.specs.Set.{frame·control}
 use Rattle.frame.specs.Slaves.{writesOf, openTo}

@@ -3,13 +3,13 @@
 -- broadcast, break off in every field and spoil parities, in between there are levels, idle slots and stray bits;
 -- in the second there is other noise.
 use mathlib.Core.Bool.{Bool, true, false, not, _&&_}
-use mathlib.Core.Path.{_≡_, refl, sym, subst}
+use mathlib.Core.Path.{_≡_, refl, sym}
 use mathlib.Core.List.{List, [], _∷_, _++_, map}
-use Prim.Native.Nat.{ℕ, zero, suc, _+_, _-_, _≤_, _<_}
+use Prim.Native.Nat.{ℕ, zero, suc, _+_, _-_, _<_}
 use native.Mathlib.Omega.{arith}
 use borrow.Author.Tests.{eqb-true, not-true}
 use lib.Count.{ones, onesIn}
-use lib.Dec.{T, eqb}
+use lib.Dec.{eqb}
 use lib.ListN.{length, take}
 use lib.Seq.{take-take}
 use Rattle.line.specs.Parity as parity
@@ -23,16 +23,15 @@ use Rattle.frame.specs.Cases.{field}
 use Rattle.frame.specs.declared.place.Place.the-variants.{Waiting}
 use Rattle.line.proofs.Either.{both}
 use Rattle.isolation.specs.Words.{count, framed, keeps, kept, levels, marked, marks, spaced, spells}
-use Rattle.isolation.specs.Runs.{Alike, Behind, Compared, Given, Protected, answers, run}
+use Rattle.isolation.specs.Runs.{Behind, Compared, Given, Protected, run}
 use Rattle.rules.specs.State as state
 use Rattle.rules.specs.State.{State, reset}
 use Rattle.rules.specs.Endings as endings
 use Rattle.rules.specs.Slots as slots
 use Rattle.rules.specs.Registers as registers
 use Rattle.rules.specs.Step as step
-use Rattle.rules.specs.Cases.{answered, bytes, exchange, header, lockTaken, read, readOut, write}
-use Rattle.rules.specs.Machine.{Observed, observed, unit}
-use Rattle.rules.proofs.Calm.{pick-ind}
+use Rattle.rules.specs.Cases.{answered, exchange, header, lockTaken, read, readOut}
+use Rattle.rules.specs.Machine.{observed, unit}
 use Rattle.rules.proofs.Protects.{holds}
 
 -- ---- the holder's words

@@ -3,12 +3,11 @@ use mathlib.Core.Bool.{Bool, true, false, not, _&&_, _||_, Bool·beq}
 use mathlib.Core.Logic.{_⊎_, inl, inr, ⊎-elim}
 use mathlib.Core.Path.{_≡_, refl, sym, ap, ap₂, _∙_, subst}
 use mathlib.Core.List.{List, [], _∷_}
-use Prim.Native.Nat.{ℕ, zero, suc, _+_, _/_, _%_, _≤_, _<_}
+use Prim.Native.Nat.{ℕ, zero, suc, _/_, _%_, _≤_, _<_}
 use native.Mathlib.Omega.{arith}
 use borrow.Author.Tests.{eqb-true, eqb-false, ltb-true, ltb-false}
 use lib.Dec.{T, eqb, ltb}
 use lib.ListN.{length, take}
-use Rattle.line.specs.Choice.{pick, _▹_}
 use Rattle.line.specs.Parity.{parityHolds}
 use Rattle.line.specs.Slot.{Class, slot, host, classOf, kindOf}
 use Rattle.line.specs.declared.slot.Slot.{Slot}
@@ -21,9 +20,9 @@ use Rattle.frame.specs.Set.{frame·byte}
 use Rattle.frame.specs.Step as step
 use Rattle.frame.specs.Step.{moved}
 use Rattle.frame.specs.declared.place.Event.{Event}
-use Rattle.frame.specs.declared.place.Event.the-variants.{Nothing as Quiet, Lost, Addressed, ControlAcked}
+use Rattle.frame.specs.declared.place.Event.the-variants.{Nothing as Quiet, ControlAcked}
 use Rattle.frame.specs.declared.place.Event.the-variants.{LengthAcked}
-use Rattle.frame.specs.declared.place.Event.the-variants.{ByteAcked, AllAcked, ShortAcked, Aborted}
+use Rattle.frame.specs.declared.place.Event.the-variants.{Aborted}
 use Rattle.frame.specs.declared.place.Field.{Field}
 use Rattle.frame.specs.declared.place.Field.the-variants.{Broadcast, Master, Slave, Control, Length, Data}
 use Rattle.frame.specs.declared.place.Frame.{Frame}
@@ -33,7 +32,7 @@ use Rattle.frame.specs.declared.place.Place.the-variants.{Waiting, In}
 use Rattle.frame.specs.declared.place.View.{View}
 use Rattle.isolation.specs.Runs.{run}
 use Rattle.rules.specs.Machine.{unit, waiting}
-use Rattle.rules.specs.Set.{core·frame, core·idle, core·regs}
+use Rattle.rules.specs.Set.{core·frame, core·idle}
 use Rattle.rules.specs.State.{State, isEmpty, seenOf, viewOf}
 use Rattle.rules.specs.Endings.{acted, cutAt, cutOf, dataEnded, draws, endedOf, frees, leftOf, lengthEnded}
 use Rattle.rules.specs.Endings.{lockAfter}
@@ -51,7 +50,7 @@ use Rattle.rules.specs.declared.state.Acted.{Acted}
 use Rattle.rules.specs.declared.state.Core.{Core}
 use Rattle.rules.specs.declared.state.Registers.{Registers}
 use Rattle.rules.specs.declared.state.Seen.{Seen}
-use Rattle.rules.proofs.Calm.{pick-ind, pick-yes, pick-no, Harmless, harmless-ties}
+use Rattle.rules.proofs.Calm.{pick-ind, Harmless, harmless-ties}
 use Rattle.rules.proofs.Strangers.{accepted-open, judged-harmless}
 
 -- whose frame it may be once the control is judged: the unit's own as master, one that is harmless, or the holder's

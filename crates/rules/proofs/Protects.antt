@@ -3,11 +3,10 @@
 use mathlib.Core.Bool.{Bool, true, false, not, _&&_, _||_}
 use mathlib.Core.Path.{_≡_, refl, sym, ap, ap₂, _∙_, subst}
 use mathlib.Core.List.{List, [], _∷_}
-use Prim.Native.Nat.{ℕ, zero, suc, _%_}
-use native.Mathlib.Omega.{arith}
+use Prim.Native.Nat.{ℕ, _%_}
 use lib.Dec.{T, eqb}
 use lib.ListN.{drop}
-use Rattle.line.specs.Choice.{pick, bitOf, _▹_}
+use Rattle.line.specs.Choice.{bitOf, _▹_}
 use Rattle.line.specs.Slot.{Class, slot, host, classOf}
 use Rattle.line.specs.declared.slot.Slot.the-variants.{Level, Start, Idle, Stray}
 use Rattle.frame.specs.Frame.{begunOf, doneOf}
@@ -15,26 +14,25 @@ use Rattle.frame.specs.Drive as drive
 use Rattle.frame.specs.Slaves.{writesOf}
 use Rattle.frame.specs.Step as step
 use Rattle.frame.specs.declared.place.Field.the-variants.{Broadcast, Master, Slave, Control, Length, Data}
-use Rattle.frame.specs.declared.place.Frame.{Frame}
 use Rattle.frame.specs.declared.place.Place.{Place}
 use Rattle.frame.specs.declared.place.Place.the-variants.{Waiting, In}
 use Rattle.isolation.specs.Words.{spells}
 use Rattle.isolation.specs.Runs.{shown, latest, Protected}
 use Rattle.isolation.proofs.Unwind.{protected}
 use Rattle.isolation.proofs.Unwinding.{Unwinding}
-use Rattle.rules.specs.Set.{acted·core, core·frame, core·idle, core·regs}
+use Rattle.rules.specs.Set.{acted·core, core·idle}
 use Rattle.rules.specs.State.{State, reset, isEmpty, seenOf, takesPart, tbfAfter, rbfAfter, viewOf}
-use Rattle.rules.specs.Endings.{acted, cutAt, cutOf, endedOf, leftOf}
+use Rattle.rules.specs.Endings.{acted, cutAt, cutOf, leftOf}
 use Rattle.rules.specs.Slots.{coreDrive, driveAt, onEvent, onIdle, onLevel, onMoved, onStart}
 use Rattle.rules.specs.Slots as slots
 use Rattle.rules.specs.Registers.{Told, wrote, restarted, gave, denied, toldOf}
 use Rattle.rules.specs.Step.{actedOn, answerOf, clashes, nextDrive, saidAs, slotOn, slotSaid, stepAs, stepOf}
 use Rattle.rules.specs.Step.{toldOn, toldSaid}
 use Rattle.rules.specs.Step.{wordOf}
-use Rattle.rules.specs.Machine.{Observed, observed, unit, waiting}
+use Rattle.rules.specs.Machine.{unit, waiting}
 use Rattle.rules.specs.declared.answer.Answer.{Answer}
-use Rattle.rules.specs.declared.answer.Answer.the-variants.{Given, Refused}
-use Rattle.rules.specs.declared.answer.Reply.the-variants.{Taken, Written, Read}
+use Rattle.rules.specs.declared.answer.Answer.the-variants.{Given}
+use Rattle.rules.specs.declared.answer.Reply.the-variants.{Taken}
 use Rattle.rules.specs.declared.state.Act.{Act}
 use Rattle.rules.specs.declared.state.Act.the-variants.{Nothing}
 use Rattle.rules.specs.declared.state.Acted.{Acted}
@@ -43,8 +41,8 @@ use Rattle.rules.specs.declared.state.Registers.{Registers}
 use Rattle.rules.specs.declared.state.Seen.{Seen}
 use Rattle.rules.proofs.Answers.{latest-taken, latest-written, latest-read, latest-refused, shown-written}
 use Rattle.rules.proofs.Answers.{shown-read}
-use Rattle.rules.proofs.Calm.{pick-ind, pick-yes, pick-no, CalmAt, Calm, calm-ended}
-use Rattle.rules.proofs.Strangers.{Unmoved, on-level}
+use Rattle.rules.proofs.Calm.{pick-ind, pick-no, CalmAt, Calm, calm-ended}
+use Rattle.rules.proofs.Strangers.{on-level}
 
 -- what lasts: all of the state but the frame under way and the latest slot
 pub record Lasting : Type 0 where

@@ -2,31 +2,29 @@
 -- stranger's.
 use mathlib.Core.Bool.{Bool, true, false, not, _&&_, _||_, Bool·beq}
 use mathlib.Core.Path.{_≡_, refl, sym, ap, ap₂, _∙_, subst}
-use mathlib.Core.List.{List, [], _∷_}
-use Prim.Native.Nat.{ℕ, zero, suc, _+_, _-_, _*_, _%_, _^_, _≤_, _<_}
+use mathlib.Core.List.{List, _∷_}
+use Prim.Native.Nat.{ℕ, suc, _+_, _-_, _%_, _^_, _≤_, _<_}
 use native.Mathlib.Nat.{mod-eq-of-lt, pow-suc}
-use native.Mathlib.Numerals.{add-one}
 use native.Mathlib.Omega.{arith}
-use borrow.Author.Tests.{ltb-true, ltb-false, eqb-true, eqb-false}
-use lib.Dec.{T, eqb, ltb}
+use borrow.Author.Tests.{ltb-true, ltb-false, eqb-false}
+use lib.Dec.{eqb, ltb}
 use lib.Pow.{pow-mono}
 use Rattle.line.specs.Choice.{pick, bitOf, _▹_}
 use Rattle.line.specs.Parity.{parityHolds}
 use Rattle.frame.specs.Frame.{doneOf, nextOf, shiftOf, shiftedOf, toField, withLength}
-use Rattle.frame.specs.Slaves.{acceptedOf, addressedOf, byValue, controlOf, openTo, strangerOf, writesOf}
+use Rattle.frame.specs.Slaves.{acceptedOf, byValue, controlOf, openTo, strangerOf, writesOf}
 use Rattle.frame.specs.Masters.{clashOf, ownBit}
 use Rattle.frame.specs.Drive.{driveOf}
 use Rattle.frame.specs.Set.{frame·broadcast, frame·byte}
-use Rattle.frame.specs.Step.{moved, oneBit, goOn, afterAck, headerAck, textAck, atBroadcast, masterOf, atMaster}
+use Rattle.frame.specs.Step.{moved, goOn, afterAck, headerAck, textAck, atBroadcast, masterOf, atMaster}
 use Rattle.frame.specs.Step.{withSlave}
 use Rattle.frame.specs.Step.{slaveJudged, atSlave, withControl, controlJudged, atControl, lengthJudged, atLength}
-use Rattle.frame.specs.Step.{withAck}
 use Rattle.frame.specs.Step.{dataJudged, countedOf, ackedOf, lastOf, wholeOf, endsOf, againOf, dataAcked, atData}
 use Rattle.frame.specs.Step.{atField}
-use Rattle.frame.specs.Step.{overruledOf, inField, atPlace, levelOf}
+use Rattle.frame.specs.Step.{inField, atPlace, levelOf}
 use Rattle.frame.specs.declared.judging.Judged.the-variants.{Nak}
 use Rattle.frame.specs.declared.place.Event.the-variants.{Nothing as Quiet, Addressed, ControlAcked, LengthAcked}
-use Rattle.frame.specs.declared.place.Event.the-variants.{ByteAcked, AllAcked, ShortAcked, Aborted}
+use Rattle.frame.specs.declared.place.Event.the-variants.{ByteAcked, Aborted}
 use Rattle.frame.specs.declared.place.Field.{Field}
 use Rattle.frame.specs.declared.place.Field.the-variants.{Broadcast, Master, Slave, Control, Length, Data}
 use Rattle.frame.specs.declared.place.Frame.{Frame}
@@ -36,7 +34,7 @@ use Rattle.frame.specs.declared.place.Place.the-variants.{Waiting, In}
 use Rattle.frame.specs.declared.place.View.{View}
 use Rattle.isolation.specs.Words.{spells}
 use Rattle.rules.specs.Set.{core·frame}
-use Rattle.rules.specs.Endings.{acted, draws, endedOf, leftOf}
+use Rattle.rules.specs.Endings.{acted, endedOf, leftOf}
 use Rattle.rules.specs.Slots.{onAddressed, onControlAcked, onLengthAcked, onByteAcked, lastAcked, onEvent}
 use Rattle.rules.specs.Slots.{onMoved}
 use Rattle.rules.specs.declared.state.Act.the-variants.{Nothing}

@@ -7,7 +7,6 @@ use Rattle.line.specs.Choice.{pick, _▹_}
 use Rattle.line.specs.Numbers.{codeSending, codeReceiving, codeBroadcastReceiving, codeNormal, codeAborted}
 use Rattle.frame.specs.Frame.{doneOf}
 use Rattle.frame.specs.Slaves.{writesOf}
-use Rattle.frame.specs.declared.place.Field.{Field}
 use Rattle.frame.specs.declared.place.Field.the-variants.{Broadcast, Master, Slave, Control, Length, Data}
 use Rattle.frame.specs.declared.place.Frame.{Frame}
 use Rattle.frame.specs.declared.place.Place.{Place}

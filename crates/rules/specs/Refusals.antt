@@ -1,7 +1,7 @@
 -- Demand 1 for one word: document 01, "Refused because of the input" and "Refused because of the state", row by row,
 -- each under its own condition alone. "The lowest number wins. A refusal changes no state".
 use Prim.Native.Nat.{ℕ, _/_, _%_}
-use mathlib.Core.Bool.{Bool, true, false, not, _&&_, _||_}
+use mathlib.Core.Bool.{Bool, false, not, _&&_, _||_}
 use mathlib.Core.List.{List, [], _∷_}
 use mathlib.Core.Path.{_≡_}
 use lib.Dec.{eqb, leb, ltb}

@@ -1,7 +1,7 @@
 -- Document 01, "Registers", and the refusals 3, 4 and 6 to 10: what the host's words do.
 use Prim.Native.Nat.{ℕ, _+_, _*_, _/_, _%_}
 use mathlib.Core.Bool.{Bool, true, false, not, _&&_, _||_}
-use mathlib.Core.List.{List, [], _∷_, _++_}
+use mathlib.Core.List.{List}
 use lib.Dec.{eqb, leb, ltb}
 use lib.ListN.{length, drop, getD}
 use Rattle.line.specs.Choice.{pick, bitOf, _▹_}

@@ -1,6 +1,6 @@
 -- What a slot does to a unit (document 01, "Frame", "Masters", "Registers").
 use Prim.Native.Nat.{ℕ, _+_, _*_, _/_, _%_}
-use mathlib.Core.Bool.{Bool, true, false, not, _&&_, _||_}
+use mathlib.Core.Bool.{Bool, true, false, not, _&&_}
 use lib.Dec.{eqb, leb, ltb}
 use Rattle.line.specs.Choice.{pick, bitOf, _▹_}
 use Rattle.line.specs.Numbers.{codeSending, codeWanted, driveReleased, driveStart}

@@ -5,11 +5,10 @@ use mathlib.Core.List.{List, [], _∷_, _++_}
 use lib.Dec.{eqb, ltb}
 use lib.ListN.{length, drop, getD}
 use Rattle.line.specs.Choice.{pick, bitOf}
-use Rattle.line.specs.Numbers.{codeAtReset, rbfBytes, tbfBytes}
+use Rattle.line.specs.Numbers.{codeAtReset, rbfBytes}
 use Rattle.frame.specs.Frame.{noFrame}
 use Rattle.frame.specs.Slaves.{writesOf}
 use Rattle.frame.specs.declared.place.View.{View}
-use Rattle.rules.specs.declared.state.Acted.{Acted}
 use Rattle.rules.specs.declared.state.Act.{Act}
 use Rattle.rules.specs.declared.state.Core.{Core}
 use Rattle.rules.specs.declared.state.Registers.{Registers}

@@ -1,7 +1,6 @@
 -- One word: the unit's next state, and its answer as a word.
 use Prim.Native.Nat.{ℕ, _+_, _*_, _%_}
-use mathlib.Core.Bool.{Bool, true, false, _&&_}
-use mathlib.Core.List.{List, [], _∷_}
+use mathlib.Core.Bool.{Bool, _&&_}
 use lib.Dec.{eqb}
 use Rattle.line.specs.Choice.{pick}
 use Rattle.line.specs.Slot.{Class, slot, host, classOf}
@@ -10,10 +9,8 @@ use Rattle.line.specs.declared.slot.Slot.{Slot}
 use Rattle.line.specs.declared.slot.Slot.the-variants.{Level, Start, Idle, Stray}
 use Rattle.rules.specs.declared.answer.Answer.{Answer}
 use Rattle.rules.specs.declared.answer.Answer.the-variants.{Given, Refused}
-use Rattle.rules.specs.declared.answer.Reply.{Reply}
 use Rattle.rules.specs.declared.answer.Reply.the-variants.{Taken, Written, Read}
 use Rattle.rules.specs.declared.state.Acted.{Acted}
-use Rattle.rules.specs.declared.state.Core.{Core}
 use Rattle.rules.specs.Set.{core·regs}
 use Rattle.rules.specs.State.{State, reset, isEmpty, seenOf, tbfAfter, rbfAfter}
 use Rattle.rules.specs.Slots.{onStart, onIdle, onLevel, coreDrive}

@@ -28,7 +28,7 @@ use Rattle.rules.specs.declared.state.Act.the-variants.{Nothing}
 use Rattle.rules.specs.declared.state.Acted.{Acted}
 use Rattle.rules.specs.declared.state.Core.{Core}
 use Rattle.rules.specs.declared.state.Seen.{Seen}
-use Rattle.unit.specs.Both.{Both, afterSlot, afterWord, slotActed, slotRefusal, takenIn}
+use Rattle.unit.specs.Both.{afterSlot, afterWord, slotActed, slotRefusal, takenIn}
 use Rattle.rules.specs.Endings.{acted}
 use Rattle.unit.specs.Plain.{amidAt, amidOf, insideOf, listenedAt, listenedOf, plainAt, plainCore, plainOf, tookOn}
 use Rattle.rules.specs.Slots.{coreDrive, driveAt, onEvent, onLevel}

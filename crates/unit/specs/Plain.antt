@@ -19,7 +19,7 @@ use Rattle.rules.specs.declared.answer.Reply.the-variants.{Taken}
 use Rattle.rules.specs.declared.state.Core.{Core}
 use Rattle.unit.specs.declared.step.Answered.{Answered}
 use Rattle.unit.specs.declared.step.Lent.{Lent}
-use Rattle.unit.specs.Both.{Both, stateIn, takenIn}
+use Rattle.unit.specs.Both.{stateIn, takenIn}
 use Rattle.rules.specs.Set.{core·frame, core·idle}
 use Rattle.rules.specs.State.{State}
 use Rattle.rules.specs.Step.{nextDrive}

@@ -111,5 +111,5 @@ pub(crate) fn with_regs(mut core: Core, regs: Registers) -> Core
 pub(crate) fn acting(core: Core, act: Act) -> Acted
     ensures { λ r. ⌜ r ≡ acted act core ⌝ }
 {
-    Acted { core: core, act }
+    Acted { core, act }
 }

@@ -1,15 +1,11 @@
 -- What a contest comes to, one law for each way that it ends.
-use mathlib.Core.Bool.{Bool, true, false}
 use mathlib.Core.Path.{_≡_, refl, sym, ap, _∙_}
-use mathlib.Core.List.{List, [], _∷_, _++_}
-use Prim.Native.Nat.{ℕ, _+_, _≤_, _<_}
-use native.Mathlib.Omega.{arith}
+use mathlib.Core.List.{List}
+use Prim.Native.Nat.{ℕ, _≤_, _<_}
 use borrow.Author.Tests.{lt-ltb, le-ltb, eq-eqb, ne-eqb}
-use lib.Dec.{eqb, ltb}
-use lib.ListN.{length, drop, getD}
-use Rattle.line.specs.Choice.{pick}
-use Rattle.line.specs.Contest.{nobody, numberOf, firstOut, firstTwin, winnerOf, lossesOf, contestOf}
-use Rattle.line.specs.Contest.{numbersAfter, verdictOf, Contested, Wins}
+use lib.ListN.{length, getD}
+use Rattle.line.specs.Contest.{nobody, numberOf, firstOut, firstTwin, contestOf}
+use Rattle.line.specs.Contest.{numbersAfter, verdictOf, Contested}
 use Rattle.line.specs.Deciding.{Fair, Least, Losses}
 use Rattle.line.specs.declared.contest.Contender.{Contender}
 use Rattle.line.specs.declared.contest.Outcome.{Outcome}

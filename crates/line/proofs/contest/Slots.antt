@@ -1,17 +1,13 @@
 -- The slots 2 to 14: where w is the lowest of all, each slot settles at w's level, so a contender loses in the first
 -- slot
 -- in which it differs from w.
-use mathlib.Core.Bool.{Bool, true, false}
 use mathlib.Core.Logic.{_⊎_, inl, inr, ⊎-elim}
-use mathlib.Core.Path.{_≡_, refl, sym, ap, _∙_}
+use mathlib.Core.Path.{_≡_, refl, ap}
 use mathlib.Core.List.{List, [], _∷_}
-use Prim.Native.Nat.{ℕ, zero, suc, _+_, _-_, _*_, _/_, _^_, _≤_, _<_, min}
+use Prim.Native.Nat.{ℕ, zero, suc, _-_, _/_, _^_, _≤_}
 use native.Mathlib.Nat.{le-antisymm}
 use native.Mathlib.Omega.{arith}
 use borrow.Author.Tests.{lt-ltb, le-ltb, eq-eqb, ne-eqb}
-use lib.Dec.{eqb, ltb}
-use lib.ListN.{length, getD}
-use Rattle.line.specs.Choice.{pick}
 use Rattle.line.specs.Numbers.{lastContestSlot}
 use Rattle.line.specs.Parity.{levelOf}
 use Rattle.line.specs.Contest.{settled, remaining, lossOf}

@@ -1,18 +1,18 @@
 -- The winner of a contest: who is the lowest of contenders that are in range, no two of them alike, is the only one
 -- that
 -- the slots leave, and comes before all others.
-use mathlib.Core.Bool.{Bool, true, false, _&&_}
+use mathlib.Core.Bool.{Bool, true, false}
 use mathlib.Core.Logic.{_⊎_, inl, inr, ⊎-elim}
 use mathlib.Core.Path.{_≡_, refl, sym, ap, _∙_, subst}
 use mathlib.Core.List.{List, [], _∷_, map}
-use Prim.Native.Nat.{ℕ, zero, suc, _+_, _*_, _/_, _^_, _≤_, _<_}
+use Prim.Native.Nat.{ℕ, zero, suc, _^_, _≤_, _<_}
 use native.Mathlib.Nat.{div-eq-of-lt, eq-or-lt-of-le}
 use native.Mathlib.Omega.{arith}
 use borrow.Author.Tests.{eq-eqb, ne-eqb, leb-true, not-false}
 use lib.Dec.{T, eqb, leb}
 use lib.ListN.{length, getD, length-map}
-use Rattle.line.specs.Numbers.{contestSlots, highestAddress, lastContestSlot}
-use Rattle.line.specs.Contest.{nobody, inRange, outOfRange, alike, firstPlace, firstOut, firstTwin, numberOf}
+use Rattle.line.specs.Numbers.{highestAddress}
+use Rattle.line.specs.Contest.{nobody, inRange, outOfRange, alike, numberOf}
 use Rattle.line.specs.Contest.{lossOf, lossesOf, winnerOf, Before, Wins}
 use Rattle.line.specs.Deciding.{differs, differences, Fair, Least}
 use Rattle.line.specs.declared.contest.Contender.{Contender}

@@ -4,7 +4,7 @@ use Prim.Native.Nat.{ℕ}
 use native.Mathlib.Omega.{arith}
 use lib.ListN.{List·getD-eq-default}
 use Rattle.frame.specs.Slaves.{controls}
-use Rattle.frame.specs.declared.judging.Judged.the-variants.{Nak, Sends, Receives}
+use Rattle.frame.specs.declared.judging.Judged.the-variants.{Nak, Sends}
 use Rattle.frame.proofs.Values.{of-two, of-pair}
 use Rattle.frame.specs.Slaves.{byValue}
 use borrow.Author.Needs.{needs}

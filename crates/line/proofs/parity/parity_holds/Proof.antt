@@ -1,5 +1,3 @@
-use mathlib.Core.Path.{sym, ap, _∙_}
-use mathlib.Core.Bool.{Bool}
 use borrow.Author.Needs.{needs}
 use Rattle.line.specs.Parity.{parityHolds}
 use Rattle.line.proofs.parity.Even.{parity-holds}
