@@ -99,6 +99,10 @@ wanted = offered ++ header 0x525 0x123 0x3 0 ++ answered 8 3 0
 abbrev pub ranEmpty : List ℕ
 ranEmpty = wanted ++ answered 8 0x11 0 ++ 3 ∷ []
 
+-- 3H whose length is NAKed: the sending is aborted, and nothing is locked
+abbrev pub lengthNak : List ℕ
+lengthNak = offered ++ header 0x525 0x123 0x3 0 ++ answered 8 3 1 ++ 3 ∷ []
+
 -- BH cut after one byte of two, then read out and completed
 abbrev pub lockTaken : List ℕ
 lockTaken =
@@ -124,6 +128,12 @@ loss =
     ∷ write 0x1 0x08 ∷ 3
     ∷ exchange 0x023 0x123 0xF 1 (0x42 ∷ [])
 
+-- a read request made while RBF has bytes: it holds back, so that the frame of 023H neither beats nor aborts it
+abbrev pub heldBack : List ℕ
+heldBack =
+    reception ++ write 0x4 0x60 ∷ write 0x5 0x45 ∷ write 0x6 0x83 ∷ write 0x1 0x08 ∷ 3
+    ∷ exchange 0x023 0x456 0xF 1 (0x42 ∷ [])
+
 -- "master 525H, FH, length 2: RBF begins 52H 5FH 02H"; "status after reset 80H"; the listing's example; the stories
 unfoldable pub unitCases : List Case
 unitCases =
@@ -137,12 +147,14 @@ unitCases =
     ∷ (received masterRead gives 0x45 ∷ 0x63 ∷ 0x01 ∷ 0x77 ∷ [])
     ∷ (story wanted gives 15 ∷ 1 ∷ 0 ∷ 1 ∷ 0 ∷ 0 ∷ 0 ∷ 0 ∷ 0 ∷ [])
     ∷ (story ranEmpty gives 15 ∷ 3 ∷ 0 ∷ 0 ∷ 0 ∷ 1 ∷ 0x525 ∷ 0 ∷ 0 ∷ [])
+    ∷ (story lengthNak gives 15 ∷ 3 ∷ 0 ∷ 0 ∷ 0 ∷ 0 ∷ 0 ∷ 0 ∷ 0 ∷ [])
     ∷ (story lockTaken gives 15 ∷ 7 ∷ 0 ∷ 0 ∷ 0 ∷ 1 ∷ 0x525 ∷ 0 ∷ 4 ∷ [])
     ∷ (story lockCompleted gives 15 ∷ 6 ∷ 0 ∷ 0 ∷ 0 ∷ 0 ∷ 0 ∷ 0 ∷ 4 ∷ [])
     ∷ (story stranger6 gives 15 ∷ 7 ∷ 0 ∷ 0 ∷ 0 ∷ 1 ∷ 0x525 ∷ 0 ∷ 4 ∷ [])
     ∷ (story holder6 gives 15 ∷ 7 ∷ 0 ∷ 0 ∷ 0 ∷ 0 ∷ 0 ∷ 0 ∷ 4 ∷ [])
     ∷ (story loss gives 15 ∷ 6 ∷ 1 ∷ 0 ∷ 0 ∷ 0 ∷ 0 ∷ 0 ∷ 4 ∷ 1 ∷ 0xAA ∷ [])
     ∷ (received loss gives 0x02 ∷ 0x3F ∷ 0x01 ∷ 0x42 ∷ [])
+    ∷ (story heldBack gives 15 ∷ 6 ∷ 1 ∷ 0 ∷ 0 ∷ 0 ∷ 0 ∷ 0 ∷ 5 ∷ [])
     ∷ []
 
 -- every marked case

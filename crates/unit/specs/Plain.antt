@@ -1,6 +1,6 @@
--- The plainest words: a level while the unit waits for a start, a bit of a field that the unit only listens to, or a bit
--- of a field that the line has as the unit drives it. The definitions of a word cover them; what is said here of them is
--- proved of those (`proofs/Listening.antt`).
+-- The plainest words: a level while the unit waits for a start, a bit of a field that the unit only listens to, or a
+-- bit of a field that the line has as the unit drives it. The definitions of a word cover them; what is said here of
+-- them is proved of those (`proofs/Listening.antt`).
 use Prim.Native.Nat.{ℕ}
 use mathlib.Core.Bool.{Bool, true, false, not, _&&_}
 use mathlib.Core.List.{List}

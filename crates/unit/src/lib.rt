@@ -7,5 +7,5 @@ mod host;
 mod plain;
 mod registers;
 mod slots;
-pub mod state;
+mod state;
 pub mod step;

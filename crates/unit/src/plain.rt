@@ -1,6 +1,6 @@
-// The plainest words by a short way: a level while the unit waits for a start, a bit of a field that it only listens to,
-// or a bit of a field that the line has as the unit drives it. Most words of a bus are such, and nothing is judged or
-// stored with them, so they need not be carried through all that a slot can bring about.
+// The plainest words by a short way: a level while the unit waits for a start, a bit of a field that it only listens
+// to, or a bit of a field that the line has as the unit drives it. Most words of a bus are such, and nothing is judged
+// or stored with them, so they need not be carried through all that a slot can bring about.
 ghost use mathlib.Core.Path.{_≡_};
 ghost use Rattle.unit.specs.Plain.{Agreed, Agrees, amidOf, insideOf, listenedOf, plainOf, plainly, tookBy};
 use crate::step::Answered;

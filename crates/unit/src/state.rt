@@ -1,4 +1,4 @@
-// The state of a unit, and what passes between its parts.
+// What is worked out from the state of a unit, and its reset.
 ghost use mathlib.Core.Path.{_≡_};
 ghost use Rattle.rules.specs.Endings.{acted};
 ghost use Rattle.rules.specs.Set.{core·regs};
@@ -13,7 +13,7 @@ use rules::state::Core;
 use rules::state::Registers;
 
 // "Reset: RCR FFH, MCR 80H, all else zero or empty".
-pub(crate) fn reset_registers() -> Registers
+fn reset_registers() -> Registers
     ensures { λ r. ⌜ r ≡ resetRegisters ⌝ }
 {
     Registers {

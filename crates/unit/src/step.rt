@@ -99,7 +99,7 @@ impl Lent {
         }
     }
 
-    // A word has come to this; what the unit drives next is worked out once, where the answer is made.
+    // What a word came to; `step` adds what is driven next.
     pub(crate) fn done(self, outcome: Outcome) -> Done
         ensures { λ r. ⌜ r ≡ done self outcome ⌝ }
     {
