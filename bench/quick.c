@@ -1,4 +1,4 @@
-/* Four words of five in slot traffic are levels at which nothing is decided: the unit waits, or a field goes on. They
+/* Three words of four in slot traffic are levels at which nothing is decided: the unit waits, or a field goes on. They
    are answered here, and everything else by the model. The model was written to be read, and this shows what plain C
    gives where speed is wanted. */
 #include "quick.h"
