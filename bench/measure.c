@@ -32,7 +32,8 @@ static bool model_list_run(const struct job *job, uint8_t *answers)
 
 static bool quick_list_run(const struct job *job, uint8_t *answers)
 {
-    return quick_bytes(job->words, job->len, answers, job->len) == 0;
+    quick_bytes(job->words, job->len, answers);
+    return true;
 }
 
 static bool proved_list_run(const struct job *job, uint8_t *answers)
@@ -53,22 +54,25 @@ static size_t call_at(const struct job *job, size_t at)
     return job->len - at < job->call ? job->len - at : job->call;
 }
 
-static bool model_calls(const struct job *job, uint8_t *answers)
+typedef void unit_function(struct unit *unit, const uint8_t *words, size_t len, uint8_t *answers);
+
+static bool plain_calls(const struct job *job, uint8_t *answers, unit_function *run)
 {
     struct unit unit;
     model_reset(&unit);
     for (size_t at = 0; at < job->len; at += job->call)
-        model_unit_run(&unit, job->words + at, call_at(job, at), answers + at);
+        run(&unit, job->words + at, call_at(job, at), answers + at);
     return true;
+}
+
+static bool model_calls(const struct job *job, uint8_t *answers)
+{
+    return plain_calls(job, answers, model_unit_run);
 }
 
 static bool quick_calls(const struct job *job, uint8_t *answers)
 {
-    struct unit unit;
-    model_reset(&unit);
-    for (size_t at = 0; at < job->len; at += job->call)
-        quick_unit_run(&unit, job->words + at, call_at(job, at), answers + at);
-    return true;
+    return plain_calls(job, answers, quick_unit_run);
 }
 
 static bool proved_calls(const struct job *job, uint8_t *answers)

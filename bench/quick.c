@@ -8,7 +8,7 @@
 /* Words and answers are copied as they lie in memory. */
 _Static_assert(__BYTE_ORDER__ == __ORDER_LITTLE_ENDIAN__, "a word's lowest byte comes first");
 
-/* The bits of each field with its P. */
+/* The bits of each field with its P. The model has the like for itself, and is left as it was written. */
 static const uint8_t bits_with_parity[] = {
     [FIELD_BROADCAST] = 1,
     [FIELD_MASTER] = ADDRESS_BITS + 1,
@@ -53,14 +53,9 @@ void quick_unit_run(struct unit *unit, const uint8_t *words, size_t len, uint8_t
     }
 }
 
-uint32_t quick_bytes(const uint8_t *words, size_t words_len, uint8_t *answers, size_t answers_len)
+void quick_bytes(const uint8_t *words, size_t len, uint8_t *answers)
 {
-    if (words_len % 4)
-        return REFUSED_BYTE_COUNT;
-    if (answers_len < words_len)
-        return REFUSED_SHORT_LIST;
     struct unit unit;
     model_reset(&unit);
-    quick_unit_run(&unit, words, words_len, answers);
-    return TAKEN;
+    quick_unit_run(&unit, words, len, answers);
 }
