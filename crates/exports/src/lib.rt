@@ -1,7 +1,7 @@
 // What a host in C calls, and nothing else: each function hands on to a library below, whose contract it keeps. No
 // function has a `requires`, and nothing is assumed.
 ghost use Rattle.contest.specs.Contest.{ContestedWord, WonByWord, contendersOf};
-ghost use Rattle.list_run.specs.Bytes.{CalledBytes};
+ghost use Rattle.lists.specs.Bytes.{CalledBytes};
 ghost use Rattle.lasting.specs.Calls.{Ran, Reset};
 use contest::contenders::Contender;
 use contest::contenders::Contenders;

@@ -13,9 +13,9 @@ use Rattle.isolation.specs.Runs.{Behind, Compared, Given, Protected, answers, r
 use Rattle.isolation.proofs.Appended.{run-append, answers-append}
 use Rattle.rules.specs.Machine.{observed, unit}
 use Rattle.rules.specs.State.{State, reset}
-use Rattle.list_run.specs.Bytes.{CalledBytes, byteRefusal, bytesAfter, bytesOf, bytesOfWord, wordFrom, wordsOf}
-use Rattle.list_run.proofs.Alike.{AlikeIn, answers-alike}
-use Rattle.list_run.proofs.Called.{answers-length, answers-spelled}
+use Rattle.lists.specs.Bytes.{CalledBytes, byteRefusal, bytesAfter, bytesOf, bytesOfWord, wordFrom, wordsOf}
+use Rattle.lists.proofs.Alike.{AlikeIn, answers-alike}
+use Rattle.lists.proofs.Called.{answers-length, answers-spelled}
 use Rattle.list_run.proofs.Spelled.{taken-whole}
 use Rattle.lasting.specs.Calls.{Ran, Reset, resetState, runAnswers, runBytes, runRefusal}
 use Rattle.lasting.specs.Calls.{runState, sizeRefusal}

@@ -6,7 +6,7 @@ use lib.ListN.{length, drop}
 use Rattle.isolation.specs.Runs.{run, answers}
 use Rattle.rules.specs.Machine.{unit}
 use Rattle.rules.specs.State.{State}
-use Rattle.list_run.specs.Bytes.{byteRefusal, bytesAfter, bytesOf, stateAfter, wordsOf}
+use Rattle.lists.specs.Bytes.{byteRefusal, bytesAfter, bytesOf, stateAfter, wordsOf}
 use Rattle.lasting.specs.Layout.{stateBytes}
 use Rattle.lasting.specs.Calls.{Keeps, runAnswers, runBytes, runRefusal, runState, sizeRefusal}
 use Rattle.lasting.specs.Decode.{decode}

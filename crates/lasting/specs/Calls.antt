@@ -8,7 +8,7 @@ use Rattle.line.specs.Choice.{pick}
 use Rattle.isolation.specs.Runs.{Protected, run, answers}
 use Rattle.rules.specs.Machine.{unit}
 use Rattle.rules.specs.State.{State, reset}
-use Rattle.list_run.specs.Bytes.{byteRefusal, bytesOf, wordsOf}
+use Rattle.lists.specs.Bytes.{byteRefusal, bytesOf, wordsOf}
 use Rattle.lasting.specs.Layout.{stateBytes}
 use Rattle.lasting.specs.Encode.{encode}
 use Rattle.lasting.specs.Decode.{decode}

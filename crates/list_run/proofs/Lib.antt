@@ -1,7 +1,3 @@
--- The laws that the proofs of this library share, then what follows from its contracts alone.
+-- The laws that the proofs of this library, and of those above it, share.
 pub mod Underway
 pub mod Spelled
-pub mod Called
-pub mod Several
-pub mod Alike
-pub mod Rulings

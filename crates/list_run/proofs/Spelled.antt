@@ -16,8 +16,9 @@ use Rattle.rules.specs.Step.{stepOf, answerOf, wordOf}
 use Rattle.unit.specs.declared.step.Answered.{Answered}
 use Rattle.unit.specs.declared.step.Lent.{Lent}
 use Rattle.list_run.specs.Run.{Whole}
-use Rattle.list_run.specs.Bytes.{byteRefusal, bytesAfter, bytesOf, bytesOfWord, countRefusal}
-use Rattle.list_run.specs.Bytes.{wordAt, wordPut, wordsOf}
+use Rattle.lists.specs.Bytes.{byteRefusal, bytesAfter, bytesOf, bytesOfWord, countRefusal}
+use Rattle.lists.specs.Bytes.{wordsOf}
+use Rattle.list_run.specs.Run.{wordAt, wordPut}
 use Rattle.list_run.proofs.Underway.{cut, run-cons, run-nil, answers-cons, answers-nil, whole-after}
 
 -- the words from a place on: the word there, and those from four bytes further on

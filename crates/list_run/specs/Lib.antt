@@ -1,3 +1,2 @@
--- The definitions that a reader has to believe: the list run, then the same over bytes.
+-- What ties the run of the code to that of the definitions.
 pub mod Run
-pub mod Bytes

@@ -1,16 +1,13 @@
--- Document 01, "Words": "A list run takes a lent list of words and writes each answer into a second lent list, from a
--- given state." "Places past the last answer keep their contents."
+-- The paper's number for an outcome, and what private functions over lent buffers promise each other.
 use mathlib.Core.List.{List, _++_}
 use mathlib.Core.Path.{_≡_}
-use Prim.Native.Nat.{ℕ}
-use lib.Dec.{eqb, ltb}
-use lib.ListN.{length, drop}
-use Rattle.line.specs.Choice.{pick}
+use Prim.Native.Nat.{ℕ, _+_, _/_, _%_}
+use lib.ListN.{length, drop, getD, set}
 use Rattle.line.specs.Numbers.{rbfBytes, refusedShortList, tbfBytes}
-use Rattle.isolation.specs.Runs.{Protected, run, answers}
+use Rattle.isolation.specs.Runs.{run, answers}
+use Rattle.lists.specs.Bytes.{bytesOf, wordFrom, wordsOf}
 use Rattle.unit.specs.Both.{stateIn}
 use Rattle.rules.specs.Machine.{unit}
-use Rattle.rules.specs.State.{State}
 use Rattle.unit.specs.declared.step.Lent.{Lent}
 use Rattle.list_run.specs.declared.run.Outcome.{Outcome}
 use Rattle.list_run.specs.declared.run.Outcome.the-variants.{Ran, ShortList}
@@ -20,25 +17,14 @@ unfoldable pub numberOf : Outcome → ℕ
 numberOf Ran = 0
 numberOf ShortList = refusedShortList
 
--- number 12: "answer .. list shorter than its input"; 0 is no refusal
-unfoldable pub listRefusal : List ℕ → List ℕ → ℕ
-listRefusal words out = pick (ltb (length out) (length words)) refusedShortList 0
+-- the word at a place of a list of bytes, and the list once a word is written there
+abbrev pub wordAt : List ℕ → ℕ → ℕ
+wordAt s at = wordFrom (getD s at 0) (getD s (at + 1) 0) (getD s (at + 2) 0) (getD s (at + 3) 0)
 
--- the unit afterwards; a run that is refused leaves it as it was
-unfoldable pub unitAfter : State → List ℕ → List ℕ → State
-unitAfter s words out = pick (eqb (listRefusal words out) 0) (run unit s words) s
-
--- the answer list afterwards; "11 and above write nothing"
-unfoldable pub answersAfter : State → List ℕ → List ℕ → List ℕ
-answersAfter s words out = pick (eqb (listRefusal words out) 0) (answers unit s words ++ drop (length words) out) out
-
--- what a call of `run` from the state s promises, which ends with a number and leaves the state t and the answer list
--- `after`; the last is demand 3
-pub record Called (s : State) (words before : List ℕ) (number : ℕ) (t : State) (after : List ℕ) : Type 0 where
-  pub ends : number ≡ listRefusal words before
-  pub left : t ≡ unitAfter s words before
-  pub written : after ≡ answersAfter s words before
-  pub protected : Protected unit
+abbrev pub wordPut : List ℕ → ℕ → ℕ → List ℕ
+wordPut s at w =
+    set (set (set (set s at (w % 256)) (at + 1) (w / 0x100 % 256)) (at + 2) (w / 0x1_0000 % 256)) (at + 3)
+    (w / 0x100_0000 % 256)
 
 -- ---- a unit whose buffers are lent: the bytes of TBF and of RBF
 
@@ -50,3 +36,9 @@ Whole t r = (length t ≡ tbfBytes) × (length r ≡ rbfBytes)
 pub record RunsLent (u : Lent) (words out out' t t' r r' : List ℕ) (u' : Lent) : Type 0 where
   pub state : stateIn u' t' r' ≡ run unit (stateIn u t r) words
   pub written : out' ≡ answers unit (stateIn u t r) words ++ drop (length words) out
+
+-- what a run of it promises where the bytes are whole words, with room for the answers; a name with a dash is what is
+-- left afterwards
+pub record RunsSpelled (u : Lent) (words out out' t t' r r' : List ℕ) (u' : Lent) : Type 0 where
+  pub state : stateIn u' t' r' ≡ run unit (stateIn u t r) (wordsOf words)
+  pub written : out' ≡ bytesOf (answers unit (stateIn u t r) (wordsOf words)) ++ drop (length words) out

@@ -4,7 +4,7 @@ use Prim.Native.Nat.{ℕ, _-_, _%_}
 use lib.Dec.{ltb}
 use lib.ListN.{length, take, replicate}
 use Rattle.line.specs.Choice.{pick}
-use Rattle.list_run.specs.Bytes.{bytesAfter}
+use Rattle.lists.specs.Bytes.{bytesAfter}
 use Rattle.rules.specs.State.{reset}
 use Rattle.text.specs.Last.{mostBytes}
 use Rattle.text.specs.Listing.{listedOf}

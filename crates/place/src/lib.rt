@@ -2,7 +2,7 @@
 // frame stand here too (`specs/`), so that what rests on the rules of a frame need not rest on the code of `frame`,
 // which decides by them. No public function has a `requires`, and nothing is assumed.
 ghost use mathlib.Core.Path.{_≡_};
-ghost use Rattle.place.specs.Frame.{begunOf, doneOf, lengthOf, limitOf, nextOf, noFrame, shiftOf, shiftedOf};
+ghost use Rattle.place.specs.Frame.{begunOf, doneOf, lengthOf, limitOf, nextOf, noFrame, nowhere, shiftOf, shiftedOf};
 ghost use Rattle.place.specs.Frame.{toField, withLength};
 use line::numbers::ATTEMPTS_MODE_0;
 use line::numbers::ATTEMPTS_MODE_1;
@@ -128,15 +128,22 @@ fn shift_in(bits: u16, bit: bool) -> u16
     bits % 2048 * 2 + bit as u16
 }
 
+fn nowhere() -> Spot
+    ensures { λ r. ⌜ r ≡ nowhere ⌝ }
+{
+    Spot {
+        place: Place::Waiting,
+    }
+}
+
 impl Frame {
     // No frame: waiting for a start.
     pub fn none() -> Frame
         ensures { λ r. ⌜ r ≡ noFrame ⌝ }
     {
+        let spot = nowhere();
         Frame {
-            spot: Spot {
-                place: Place::Waiting,
-            },
+            spot,
             shift: 0,
             broadcast: false,
             master: 0,
@@ -185,10 +192,8 @@ impl Frame {
     pub fn done(mut self) -> Frame
         ensures { λ r. ⌜ r ≡ doneOf self ⌝ }
     {
-        let spot = Spot {
-            place: Place::Waiting,
-        };
-        self.spot = spot;
+        let waiting = nowhere();
+        self.spot = waiting;
         self
     }
 

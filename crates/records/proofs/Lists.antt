@@ -14,7 +14,7 @@ use Rattle.line.specs.Choice.{pick}
 use Rattle.line.specs.Numbers.{mostContenders}
 use Rattle.contest.specs.Contest.{nobody, firstOf, contendersOf, noContenders, firstTwin, verdictOf, contestOf}
 use Rattle.contest.specs.Contest.{numbersAfter, Contested, WonRightly}
-use Rattle.contest.specs.Deciding.{withRecord, gatheredOf}
+use Rattle.records.specs.Gathered.{withRecord, gatheredOf}
 use Rattle.contest.specs.declared.contenders.Contender.{Contender}
 use Rattle.contest.specs.declared.contenders.Contenders.{Contenders}
 use Rattle.contest.specs.declared.contenders.Outcome.{Outcome}

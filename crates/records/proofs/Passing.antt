@@ -41,7 +41,7 @@ use denote.Triple.Entry.{Vals, onEntry}
 use denote.Triple.Spec.{Meets}
 use denote.Triple.Walked.{Stays, stay-dropped, gave-slice, walkOf, goes-dropped, goes-gave-slice, ends-at}
 use Rattle.contest.specs.Contest.{contendersOf}
-use Rattle.contest.specs.Deciding.{gatheredOf}
+use Rattle.records.specs.Gathered.{gatheredOf}
 use Rattle.contest.specs.declared.contenders.Contender.{Contender}
 use Rattle.contest.specs.declared.contenders.Contenders.{Contenders}
 use Rattle.contest.proofs.contenders.Contender as T

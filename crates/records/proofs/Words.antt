@@ -13,7 +13,7 @@ use Rattle.line.specs.Choice.{pick}
 use Rattle.contest.specs.Contest.{contendersOf, firstOut, firstTwin, winnerOf, verdictOf, contestOf}
 use Rattle.contest.specs.Contest.{Twin, Contested, Wins, WonRightly}
 use Rattle.contest.specs.Contest.{verdictWord, ContestedWord, WonByWord}
-use Rattle.contest.specs.Deciding.{gatheredOf}
+use Rattle.records.specs.Gathered.{gatheredOf}
 use Rattle.contest.specs.declared.contenders.Contender.{Contender}
 use Rattle.contest.specs.declared.contenders.Outcome.{Outcome}
 use Rattle.contest.specs.declared.contenders.Verdict.{Verdict}

@@ -7,7 +7,7 @@ ghost use Prim.Native.Nat.{_<_, min};
 ghost use lib.ListN.{length};
 ghost use Rattle.line.specs.Numbers.{mostContenders};
 ghost use Rattle.contest.specs.Contest.{Contested, WonRightly};
-ghost use Rattle.contest.specs.Deciding.{withRecord, gatheredOf};
+ghost use Rattle.records.specs.Gathered.{withRecord, gatheredOf};
 use contest::contenders::Contender;
 use contest::contenders::Contenders;
 use contest::contenders::Outcome;

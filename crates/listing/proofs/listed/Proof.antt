@@ -2,7 +2,7 @@ use mathlib.Core.Path.{_≡_, _∙_, ap}
 use Prim.Native.Nat.{ℕ, _-_}
 use native.Mathlib.Omega.{arith}
 use lib.ListN.{length, take, replicate}
-use Rattle.list_run.specs.Bytes.{bytesAfter}
+use Rattle.lists.specs.Bytes.{bytesAfter}
 use Rattle.list_run.proofs.Spelled.{same-answers}
 use Rattle.rules.specs.State.{reset}
 use Rattle.text.specs.Last.{mostBytes}

@@ -44,7 +44,7 @@ use denote.Triple.Spec.{Meets, tripleOf}
 use denote.Triple.Table.{entered, cited}
 use denote.Triple.Walked.{says, walkOf}
 use Rattle.contest.specs.Contest.{noContenders}
-use Rattle.contest.specs.Deciding.{withRecord}
+use Rattle.records.specs.Gathered.{withRecord}
 use Rattle.line.specs.Numbers.{mostContenders}
 use Rattle.contest.specs.declared.contenders.Contender.{Contender}
 use Rattle.contest.specs.declared.contenders.Contenders.{Contenders}

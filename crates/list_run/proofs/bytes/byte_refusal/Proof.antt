@@ -1,6 +1,6 @@
 use borrow.Author.Needs.{needs}
 use borrow.Author.Tests.{lt-ltb, le-ltb, eq-eqb, ne-eqb}
-use Rattle.list_run.specs.Bytes.{countRefusal}
+use Rattle.lists.specs.Bytes.{countRefusal}
 use Rattle.list_run.proofs.bytes.byte_refusal.Statement.{statement}
 use Rattle.list_run.proofs.bytes.byte_refusal.Tie as tie
 

@@ -1,7 +1,7 @@
 use borrow.Author.Needs.{needs}
 use borrow.Author.Tests.{eq-eqb, ne-eqb}
 use mathlib.Core.Path.{_∙_}
-use Rattle.list_run.specs.Bytes.{bytesAfter, stateAfter}
+use Rattle.lists.specs.Bytes.{bytesAfter, stateAfter}
 use Rattle.list_run.proofs.bytes.run_bytes.Statement.{statement}
 use Rattle.list_run.proofs.bytes.run_bytes.Tie as tie
 

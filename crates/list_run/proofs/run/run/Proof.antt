@@ -2,7 +2,8 @@ use borrow.Author.Needs.{needs}
 use borrow.Author.Tests.{lt-ltb, le-ltb}
 use mathlib.Core.Path.{_∙_}
 use Rattle.rules.proofs.Protects.{holds}
-use Rattle.list_run.specs.Run.{answersAfter, listRefusal, numberOf, unitAfter}
+use Rattle.lists.specs.Run.{answersAfter, listRefusal, unitAfter}
+use Rattle.list_run.specs.Run.{numberOf}
 use Rattle.list_run.proofs.run.run.Statement.{statement}
 use Rattle.list_run.proofs.run.run.Tie as tie
 

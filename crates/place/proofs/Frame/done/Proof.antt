@@ -8,4 +8,5 @@ unfolding doneOf
 done-spec =
     tie.close
     (tie.spec
-    (λ c. search needs))
+    (λ c κs. search needs)
+    (λ c. simp (c .nowhere .ensures)))

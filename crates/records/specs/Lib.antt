@@ -1,0 +1,2 @@
+-- What is gathered of a lent list.
+pub mod Gathered
