@@ -1,0 +1,144 @@
+# Judges the first lines of the edits, and the logs of their checks, for tests/edits. Each line that it reads has a
+# kind, and then for `phrase` a kind of edit and a phrase, else a crate and what it has: a public function, a
+# declaration, an edit with its first line, a file that an edit changes.
+
+$1 == "phrase" { phrases[++phrase_count] = $3; phrase_kind[phrase_count] = $2 }
+$1 == "function" { functions[++function_count] = $3; function_crate[function_count] = $2 }
+$1 == "private" { private[$2, $3] = 1 }
+$1 == "declaration" { declared[$2, $3] = 1 }
+$1 == "file" { files[$2 "/" $3] = files[$2 "/" $3] " " $4 }
+$1 == "edit" { read_edit($2, $3, $4) }
+
+# One of the two forms, taken apart: a kind, what stands behind it, and the sentence. No kind: it has neither form.
+function read_edit(crate, label, line,    behind) {
+    edits[++edit_count] = crate "/" label
+    crates[edit_count] = crate
+    labels[edit_count] = label
+    if (line !~ /^# (code of|(rule|misreading|dead unit|claim), refused by) [^ ]+: ./) return
+    sub(/^# /, "", line)
+    kinds[edit_count] = line ~ /^code of / ? "code" : substr(line, 1, index(line, ",") - 1)
+    sub(/^(code of|[a-z ]*, refused by) /, "", line)
+    behind = index(line, ": ")
+    named[edit_count] = substr(line, 1, behind - 1)
+    sentences[edit_count] = substr(line, behind + 2)
+}
+
+function ok(what) { print "ok " what }
+function failed(what, why) { print "FAILED " what ": " why }
+
+# the place of the public function that a name means: 0 where there is none, -1 where there are several
+function meant(crate, name,    i, path, at) {
+    for (i = 1; i <= function_count; i++) {
+        path = "::" functions[i]
+        if (function_crate[i] != crate || substr(path, length(path) - length(name) - 1) != "::" name) continue
+        if (at) return -1
+        at = i
+    }
+    return at + 0
+}
+
+# what is wrong with the functions and files that an edit of code names
+function wrong_code(e,    at) {
+    at = (crates[e], named[e]) in private ? "private" : meant(crates[e], named[e])
+    if (at == 0) return crates[e] " has no public function " named[e]
+    if (at == -1) return crates[e] " has several public functions " named[e] "; say more of the path"
+    of_function[at]++
+    return files[edits[e]] ~ / specs\// ? "an edit of code changes src/ alone, and this one" files[edits[e]] : ""
+}
+
+# the phrase of document 01 that a sentence has in quotation marks: its place, or 0
+function quoted(e,    i) {
+    for (i = 1; i <= phrase_count; i++)
+        if (phrase_kind[i] == kinds[e] && index(sentences[e], "\"" phrases[i] "\"")) return i
+    return 0
+}
+
+# what is wrong with an edit of a definition or a statement
+function wrong_rule(e,    at) {
+    if (!((crates[e], named[e]) in declared)) return crates[e] " declares no " named[e]
+    if (kinds[e] !~ /^(misreading|dead unit)$/) return ""
+    at = quoted(e)
+    if (!at) return "it has no phrase of document 01 for a " kinds[e] ", in quotation marks"
+    of_phrase[at]++
+    return ""
+}
+
+function judge_edit(e,    why) {
+    if (kinds[e] == "") why = "its first line has none of the forms"
+    else if (files[edits[e]] ~ / proofs\//) why = "it changes a proof"
+    else if (kinds[e] == "code") why = wrong_code(e)
+    else why = wrong_rule(e)
+    if (why == "") ok(edits[e])
+    else failed(edits[e], why)
+}
+
+function judge_lines(    i) {
+    for (i = 1; i <= edit_count; i++) judge_edit(i)
+    for (i = 1; i <= function_count; i++)
+        if (of_function[i] == 2) ok(functions[i])
+        else failed(function_crate[i] "::" functions[i], "two edits of its code, and not " of_function[i] + 0)
+    for (i = 1; i <= phrase_count; i++)
+        if (of_phrase[i]) ok(phrases[i])
+        else failed("\"" phrases[i] "\"", "no edit is this " phrase_kind[i])
+}
+
+# Where an edit was refused. Of a declaration NAME in specs/ or proofs/ an error is 'FILE:L:C: error: `NAME`: text'. Of
+# a function that needs no proof file it is 'note: FILE:L:C: it is not proved that ..'. An error that only says that
+# another declaration 'was not admitted' follows from that one's. That is enough for a theorem, which may rest on what
+# fails; a computed check has to come out wrong itself. Where the first error of an edit of code is that a proof names
+# a part of the goal that is no longer there, the file does not fit the code any more, and nothing was asked of the
+# code.
+function read_log(e,    log_file, line, status, follows) {
+    first = own = ""
+    log_file = "target/must-fail/" edits[e] "/.log"
+    while ((status = (getline line < log_file)) > 0) {
+        if (line !~ /^[^ ]*:[0-9]+:[0-9]+: error: |^note: [^ ]*:[0-9]+:[0-9]+: it is not proved that /) continue
+        sub(/^[^ ]*: error: /, "", line)
+        follows = line ~ /` was not admitted/
+        if (first == "" && !follows) first = line
+        if (index(line, "`" named[e] "`: ") == 1 && !(follows && named[e] ~ /-cases$/)) own = line
+    }
+    close(log_file)
+    return status
+}
+
+function wrong_log(e) {
+    if (read_log(e) < 0) return "it has no log"
+    if (first == "") return "its log has no error"
+    if (kinds[e] == "code")
+        return first ~ /has no `Need-|that can be named from here/ ? "only a proof that no longer fits: " first : ""
+    return own == "" ? "not refused by " named[e] ", but: " first : ""
+}
+
+function judge_logs(    e, why) {
+    for (e = 1; e <= edit_count; e++) {
+        why = kinds[e] == "" ? "its first line has none of the forms" : wrong_log(e)
+        if (why == "") ok(edits[e])
+        else failed(edits[e], why)
+    }
+}
+
+# an item of the list, in lines under 120 characters
+function item(text,    words, count, i, line) {
+    count = split(text, words, " ")
+    line = "-"
+    for (i = 1; i <= count; i++) {
+        if (length(line) + 1 + length(words[i]) > 118) { print line; line = " " }
+        line = line " " words[i]
+    }
+    print line
+}
+
+function list(    e, what) {
+    for (e = 1; e <= edit_count; e++) {
+        if (e == 1 || crates[e] != crates[e - 1]) print (e == 1 ? "" : "\n") "In `" crates[e] "`:\n"
+        what = kinds[e] == "code" ? "code of `" : kinds[e] ", refused by `"
+        item("`" labels[e] "`, " (kinds[e] == "" ? "not said" : what named[e] "`: " sentences[e]))
+    }
+}
+
+END {
+    if (task == "lines") judge_lines()
+    else if (task == "logs") judge_logs()
+    else list()
+}
