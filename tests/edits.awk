@@ -92,8 +92,8 @@ function read_log(e,    log_file, line, status, follows) {
     first = own = ""
     log_file = "target/must-fail/" edits[e] "/.log"
     while ((status = (getline line < log_file)) > 0) {
-        if (line !~ /^[^ ]*:[0-9]+:[0-9]+: error: |^note: [^ ]*:[0-9]+:[0-9]+: it is not proved that /) continue
-        sub(/^[^ ]*: error: /, "", line)
+        if (line !~ /^[^`]*:[0-9]+:[0-9]+: (error: |it is not proved that )/) continue
+        sub(/^[^`]*: error: /, "", line)
         follows = line ~ /` was not admitted/
         if (first == "" && !follows) first = line
         if (index(line, "`" named[e] "`: ") == 1 && !(follows && named[e] ~ /-cases$/)) own = line
