@@ -46,20 +46,21 @@ function wrong_code(e,    at) {
     return files[edits[e]] ~ / specs\// ? "an edit of code changes src/ alone, and this one" files[edits[e]] : ""
 }
 
-# the phrase of document 01 that a sentence has in quotation marks: its place, or 0
-function quoted(e,    i) {
+# marks the phrases of document 01 that a sentence has in quotation marks, and says how many there are
+function quoted(e,    i, count) {
     for (i = 1; i <= phrase_count; i++)
-        if (phrase_kind[i] == kinds[e] && index(sentences[e], "\"" phrases[i] "\"")) return i
-    return 0
+        if (phrase_kind[i] == kinds[e] && index(sentences[e], "\"" phrases[i] "\"")) {
+            of_phrase[i] = 1
+            count++
+        }
+    return count + 0
 }
 
 # what is wrong with an edit of a definition or a statement
-function wrong_rule(e,    at) {
+function wrong_rule(e) {
     if (!((crates[e], named[e]) in declared)) return crates[e] " declares no " named[e]
-    if (kinds[e] !~ /^(misreading|dead unit)$/) return ""
-    at = quoted(e)
-    if (!at) return "it has no phrase of document 01 for a " kinds[e] ", in quotation marks"
-    of_phrase[at]++
+    if (kinds[e] ~ /^(misreading|dead unit)$/ && !quoted(e))
+        return "it has no phrase of document 01 for a " kinds[e] ", in quotation marks"
     return ""
 }
 
@@ -83,20 +84,32 @@ function judge_lines(    i) {
 }
 
 # Where an edit was refused. Of a declaration NAME in specs/ or proofs/ an error is 'FILE:L:C: error: `NAME`: text'. Of
-# a function that needs no proof file it is 'note: FILE:L:C: it is not proved that ..'. An error that only says that
-# another declaration 'was not admitted' follows from that one's. That is enough for a theorem, which may rest on what
-# fails; a computed check has to come out wrong itself. Where the first error of an edit of code is that a proof names
-# a part of the goal that is no longer there, the file does not fit the code any more, and nothing was asked of the
-# code.
-function read_log(e,    log_file, line, status, follows) {
-    first = own = ""
+# a function that needs no proof file it is 'note: FILE:L:C: it is not proved that ..'. Lines that go on are indented.
+# An error that only says that another declaration 'was not admitted' follows from that one's. That is enough for a
+# theorem, which may rest on what fails; a computed check has to come out wrong itself. Where the declaration that
+# fails first names a part of the code or of the goal that is no longer there, the proof file does not fit any more,
+# and nothing was asked of the code: that shows nothing.
+BEGIN { misfit = "has no (`Need-|field `)|that can be named from here|is a declared record, built with" }
+
+function read_error(e, line,    follows, name) {
+    sub(/^[^`]*: error: /, "", line)
+    follows = line ~ /` was not admitted/
+    if (index(line, "`" named[e] "`: ") == 1 && !(follows && named[e] ~ /-cases$/)) own = line
+    if (follows) return 0
+    name = line ~ /^`/ ? substr(line, 1, index(line, "`: ")) : ""
+    if (first == "") { first = line; first_name = name }
+    return name == first_name
+}
+
+# sets `first`, the first error that follows from no other, `own`, one of the declaration that should refuse the edit,
+# and `unfit`, a line on what is no longer there
+function read_log(e,    log_file, line, status, inside) {
+    first = own = unfit = ""
     log_file = "target/must-fail/" edits[e] "/.log"
     while ((status = (getline line < log_file)) > 0) {
-        if (line !~ /^[^`]*:[0-9]+:[0-9]+: (error: |it is not proved that )/) continue
-        sub(/^[^`]*: error: /, "", line)
-        follows = line ~ /` was not admitted/
-        if (first == "" && !follows) first = line
-        if (index(line, "`" named[e] "`: ") == 1 && !(follows && named[e] ~ /-cases$/)) own = line
+        if (line !~ /^  /)
+            inside = line ~ /^[^`]*:[0-9]+:[0-9]+: (error: |it is not proved that )/ && read_error(e, line)
+        if (inside && line ~ misfit) unfit = line
     }
     close(log_file)
     return status
@@ -105,9 +118,8 @@ function read_log(e,    log_file, line, status, follows) {
 function wrong_log(e) {
     if (read_log(e) < 0) return "it has no log"
     if (first == "") return "its log has no error"
-    if (kinds[e] == "code")
-        return first ~ /has no `Need-|that can be named from here/ ? "only a proof that no longer fits: " first : ""
-    return own == "" ? "not refused by " named[e] ", but: " first : ""
+    if (kinds[e] == "code") return unfit == "" ? "" : "a proof that no longer fits: " substr(unfit, 1, 300)
+    return own == "" ? "not refused by " named[e] ", but: " substr(first, 1, 300) : ""
 }
 
 function judge_logs(    e, why) {
