@@ -60,7 +60,7 @@ function module(path, file, dir, open,    line, type, name, status) {
         if (line ~ /^impl[ <]/) {
             sub(/^impl *(<[^>]*>)? */, "", line)
             type = word_behind(line, "^")
-        } else if (line ~ /^}/)
+        } else if (line ~ /^[}]/)
             type = ""
         else if (line ~ /^[ \t]*pub ((const|unsafe|extern|"C") )*fn [A-Za-z_]/) {
             name = word_behind(line, "fn ")
