@@ -1,10 +1,9 @@
 # What a host in C links: `make` builds target/libiebus.a, `make install PREFIX=..` puts header, library and iebus.pc in
-# place, `make example` builds the example host and `make run` runs it. The toolchain's `rt` is needed where an archive
+# place, `make example` builds the example host and `make run` runs it. The toolchain's `rt` is needed where the archive
 # of proved code is missing or older than the crates (tests/archive).
 VERSION = 1
 PREFIX ?= /usr/local
 CC = gcc
-AR = ar
 CFLAGS ?= -O2
 ALL_CFLAGS = -std=c11 -Wall -Wextra -Werror $(CFLAGS)
 
@@ -12,8 +11,8 @@ OUT = target
 LIBRARY = $(OUT)/libiebus.a
 EXAMPLE = $(OUT)/host/bench
 
-# an archive has the exported functions of one crate; everything else in it is local
-ARCHIVES = $(patsubst %,$(OUT)/staticlib/lib%.a,line list_run lasting)
+# it has the functions of the crate `exports`; everything else in it is local
+ARCHIVE = $(OUT)/staticlib/libexports.a
 HOST = $(patsubst host/%.c,$(OUT)/host/%.o,$(wildcard host/*.c))
 
 all: $(LIBRARY)
@@ -22,12 +21,11 @@ all: $(LIBRARY)
 .NOTPARALLEL:
 
 # asked every time, because tests/archive knows best whether there is something to do
-$(ARCHIVES): $(OUT)/staticlib/lib%.a: always
-	@tests/archive $*
+$(ARCHIVE): always
+	@tests/archive
 
-$(LIBRARY): $(ARCHIVES)
-	@rm -f $@
-	printf 'create %s\n$(patsubst %,addlib %\n,$^)save\nend\n' $@ | $(AR) -M
+$(LIBRARY): $(ARCHIVE)
+	install -m 644 $< $@
 
 install: $(LIBRARY)
 	install -d $(DESTDIR)$(PREFIX)/include $(DESTDIR)$(PREFIX)/lib/pkgconfig

@@ -1,4 +1,3 @@
--- The laws that the proofs of this library and of those above it share.
+-- The laws that the proofs of this library share.
 pub mod Values
-pub mod Direction
 pub mod Loss

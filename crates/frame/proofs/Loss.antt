@@ -5,15 +5,15 @@ use mathlib.Core.Bool.{Bool, true, false, not, _&&_, and-false, and-true}
 use mathlib.Core.Path.{_≡_, refl, sym, subst}
 use lib.Dec.{T}
 use Rattle.line.specs.Choice.{pick}
-use Rattle.frame.specs.Set.{frame·leads}
-use Rattle.frame.specs.Frame.{doneOf}
-use Rattle.frame.specs.Masters.{clashOf, contestedOf, lostOf}
-use Rattle.frame.specs.Step.{atField, inField, moved, overruledOf}
-use Rattle.frame.specs.declared.place.Field.{Field}
-use Rattle.frame.specs.declared.place.Frame.{Frame}
-use Rattle.frame.specs.declared.place.Event.the-variants.{Aborted, Lost}
-use Rattle.frame.specs.declared.place.Moved.{Moved}
-use Rattle.frame.specs.declared.place.View.{View}
+use Rattle.place.specs.Set.{frame·leads}
+use Rattle.place.specs.Frame.{doneOf}
+use Rattle.place.specs.Masters.{clashOf, contestedOf, lostOf}
+use Rattle.place.specs.Step.{atField, inField, moved, overruledOf}
+use Rattle.place.specs.declared.Field.{Field}
+use Rattle.place.specs.declared.Frame.{Frame}
+use Rattle.place.specs.declared.Event.the-variants.{Aborted, Lost}
+use Rattle.place.specs.declared.Moved.{Moved}
+use Rattle.place.specs.declared.View.{View}
 
 -- the lead is taken away by a loss alone
 pub lead-after : (f : Frame) (lost : Bool) → frame·leads (f .leads && not lost) f ≡ pick lost (lostOf f) f

@@ -1,11 +1,11 @@
 // What the unit drives in the next slot inside a frame.
 ghost use mathlib.Core.Path.{_≡_};
 ghost use Prim.Native.Nat.{_≤_};
-ghost use Rattle.frame.specs.Drive.{repliedOf, driveOf, driveIn, sentOf};
-use crate::place::Field;
-use crate::place::Frame;
-use crate::place::Place;
-use crate::place::View;
+ghost use Rattle.place.specs.Drive.{repliedOf, driveOf, driveIn, sentOf};
+use place::Field;
+use place::Frame;
+use place::Place;
+use place::View;
 
 // A field that the unit sends: its bits, highest first, its P, and A released.
 fn sent(width: u8, value: u16, n: u8) -> bool

@@ -1,19 +1,19 @@
 // The header of a frame, level by level: broadcast bit, master address, slave address and control. A judgement is made
 // at P, and A decides how the frame goes on.
 ghost use mathlib.Core.Path.{_≡_};
-ghost use Rattle.frame.specs.Step.{afterAck, atBroadcast, atControl, atMaster, atSlave, controlJudged, goOn};
-ghost use Rattle.frame.specs.Step.{headerAck, heardOf, masterOf, slaveJudged, withControl, withSlave};
+ghost use Rattle.place.specs.Step.{afterAck, atBroadcast, atControl, atMaster, atSlave, controlJudged, goOn};
+ghost use Rattle.place.specs.Step.{headerAck, heardOf, masterOf, slaveJudged, withControl, withSlave};
 use crate::judging::accepted;
 use crate::judging::addressed;
 use crate::judging::judge_control;
 use crate::judging::stranger;
-use crate::judging::writes;
-use crate::place::Event;
-use crate::place::Field;
-use crate::place::Frame;
-use crate::place::Moved;
-use crate::place::View;
 use line::parity::parity_holds;
+use place::Event;
+use place::Field;
+use place::Frame;
+use place::Moved;
+use place::View;
+use place::writes;
 
 // "An ACK is .. awaited from another, the settled level", and "in a broadcast .. A is ignored".
 pub(crate) fn heard(frame: Frame, bit: bool) -> bool

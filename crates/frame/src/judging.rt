@@ -1,24 +1,11 @@
 // The judgements that a slave makes at P.
 ghost use mathlib.Core.Path.{_≡_};
 ghost use Rattle.line.specs.Choice.{pick};
-ghost use Rattle.frame.specs.Slaves.{acceptedOf, addressedOf, byValue, controlOf, openTo, strangerOf, writesOf};
-use crate::place::Frame;
-use crate::place::View;
+ghost use Rattle.place.specs.Slaves.{acceptedOf, addressedOf, byValue, controlOf, openTo, strangerOf};
 use line::numbers::GENERAL_BROADCAST;
-
-// What a control comes to for a slave: NAK, or the direction of what follows.
-pub enum Judged {
-    Nak,
-    Sends,
-    Receives,
-}
-
-// A write control: AH, BH, EH or FH.
-pub fn writes(control: u8) -> bool
-    ensures { λ r. ⌜ r ≡ writesOf control ⌝ }
-{
-    (control == 10) | (control == 11) | (control == 14) | (control == 15)
-}
+use place::Frame;
+use place::View;
+use place::control::Judged;
 
 // The slave address is for this unit, and both parities held: its own or, in a broadcast, the group's ("same top four
 // address bits") or the general one.

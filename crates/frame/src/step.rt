@@ -1,21 +1,21 @@
 // One level of a frame: the field that it falls in, unless it overrules what the unit drives as master.
 ghost use mathlib.Core.Path.{_≡_};
 ghost use Rattle.line.specs.Choice.{pick};
-ghost use Rattle.frame.specs.Masters.{clashOf, contestedOf, lostOf, ownBit};
-ghost use Rattle.frame.specs.Step.{atField, inField, levelOf};
+ghost use Rattle.place.specs.Masters.{clashOf, contestedOf, lostOf, ownBit};
+ghost use Rattle.place.specs.Step.{atField, inField, levelOf};
 use crate::driving::drive;
 use crate::header::at_broadcast;
 use crate::header::at_control;
 use crate::header::at_master;
 use crate::header::at_slave;
-use crate::place::Event;
-use crate::place::Field;
-use crate::place::Frame;
-use crate::place::Moved;
-use crate::place::Place;
-use crate::place::View;
 use crate::text::at_data;
 use crate::text::at_length;
+use place::Event;
+use place::Field;
+use place::Frame;
+use place::Moved;
+use place::Place;
+use place::View;
 
 // One level in a field, with nothing of the unit's own overruled.
 fn at_field(frame: Frame, field: Field, n: u8, bit: bool, view: View) -> Moved

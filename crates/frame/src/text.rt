@@ -1,15 +1,15 @@
 // The length and the data of a frame, level by level, with their attempts and the frame's end.
 ghost use mathlib.Core.Path.{_≡_};
-ghost use Rattle.frame.specs.Step.{ackedOf, againOf, atData, atLength, countedOf, dataAcked, dataJudged};
-ghost use Rattle.frame.specs.Step.{endsOf, lastOf, lengthJudged, textAck, wholeOf, withAck};
+ghost use Rattle.place.specs.Step.{ackedOf, againOf, atData, atLength, countedOf, dataAcked, dataJudged};
+ghost use Rattle.place.specs.Step.{endsOf, lastOf, lengthJudged, textAck, wholeOf, withAck};
 use crate::header::after_ack;
 use crate::header::go_on;
 use crate::header::heard;
-use crate::place::Event;
-use crate::place::Field;
-use crate::place::Frame;
-use crate::place::Moved;
 use line::parity::parity_holds;
+use place::Event;
+use place::Field;
+use place::Frame;
+use place::Moved;
 
 // The ACK after length and data, which whoever does not send them gives.
 fn text_ack(frame: Frame, bit: bool) -> bool

@@ -9,10 +9,10 @@ use lib.ListN.{length, take, drop, getD, drop-of-length-le, length-append, lengt
 use lib.Seq.{take-all, take-at, drop-at}
 use Rattle.line.specs.Choice.{bitOf}
 use Rattle.line.specs.Numbers.{rbfBytes, tbfBytes}
-use Rattle.frame.specs.declared.place.Field.the-variants.{Broadcast, Master, Slave, Control, Length, Data}
-use Rattle.frame.specs.declared.place.Frame.{Frame}
-use Rattle.frame.specs.declared.place.Place.{Place}
-use Rattle.frame.specs.declared.place.Place.the-variants.{Waiting, In}
+use Rattle.place.specs.declared.Field.the-variants.{Broadcast, Master, Slave, Control, Length, Data}
+use Rattle.place.specs.declared.Frame.{Frame}
+use Rattle.place.specs.declared.Place.{Place}
+use Rattle.place.specs.declared.Place.the-variants.{Waiting, In}
 use Rattle.unit.specs.Queue.{heldOf}
 use Rattle.rules.specs.State.{State}
 use Rattle.rules.specs.declared.state.Registers.{Registers}

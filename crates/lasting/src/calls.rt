@@ -12,8 +12,7 @@ use unit::step::Unit;
 const REFUSED_STATE_SIZE: u32 = 100;
 
 // A reset unit in `state`: 0, or 100 where `state` has not the size of a state; then nothing is written.
-#[no_mangle]
-pub extern "C" fn iebus_unit_reset(state: &mut [u8]) -> u32
+pub fn reset(state: &mut [u8]) -> u32
     ensures { λ r. ⌜ Reset (now (state .entry)) r (now (state .exit)) ⌝ }
 {
     if state.len() != STATE_BYTES {
@@ -27,8 +26,7 @@ pub extern "C" fn iebus_unit_reset(state: &mut [u8]) -> u32
 // byte at stands at byte at of `answers`; bytes past the last answer keep their contents. 0, or 11 where the bytes are
 // no whole words, or 12 where `answers` is shorter than `words`, or 100 where `state` has not the size of a state; then
 // nothing is run and nothing written.
-#[no_mangle]
-pub extern "C" fn iebus_unit_run(state: &mut [u8], words: &[u8], answers: &mut [u8]) -> u32
+pub fn run(state: &mut [u8], words: &[u8], answers: &mut [u8]) -> u32
     ensures { λ r. ⌜ Ran (now (state .entry)) (now (words .entry)) (now (answers .entry)) r (now (state .exit))
         (now (answers .exit)) ⌝ }
 {

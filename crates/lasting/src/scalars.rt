@@ -10,10 +10,10 @@ ghost use Rattle.lasting.specs.Encode.{registerBytes};
 ghost use Rattle.lasting.specs.Layout.{frameEnd, registersEnd};
 use crate::layout::FRAME_BYTES;
 use crate::layout::REGISTERS_END;
-use frame::place::Field;
-use frame::place::Frame;
-use frame::place::Place;
-use frame::place::Spot;
+use place::Field;
+use place::Frame;
+use place::Place;
+use place::Spot;
 use rules::state::Registers;
 
 // A number of 16 bits takes two bytes, the lower first.

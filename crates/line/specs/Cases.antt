@@ -6,9 +6,7 @@ use mathlib.Core.List.{List, [], _∷_}
 use Prim.Native.Nat.{ℕ}
 use lib.Count.{ones, onesIn}
 use lib.Dec.{eqb}
-use Rattle.line.specs.Parity.{parityOf, levelOf}
-use Rattle.line.specs.Contest.{numberOf, settled, remaining, lossOf, lossesOf, winnerOf, firstPlace}
-use Rattle.line.specs.declared.contest.Contender.{Contender}
+use Rattle.line.specs.Parity.{parityOf}
 
 -- what the definitions give, and what the paper says
 pub record Case : Type 0 where
@@ -31,23 +29,10 @@ unfoldable pub allGiven : List Case → Bool
 allGiven [] = true
 allGiven (c ∷ cs) = same (c .given) (c .said) && allGiven cs
 
-abbrev pub broadcast : ℕ → Contender
-broadcast a = record { bit = 0; address = a }
-
-abbrev pub ordinary : ℕ → Contender
-ordinary a = record { bit = 1; address = a }
-
--- "parity of 525H is 1, of 000H is 0"; "0FFH beats 100H, which loses in slot 6; broadcast FFFH beats ordinary 000H,
--- which loses in slot 2"
+-- "parity of 525H is 1, of 000H is 0"
 unfoldable pub lineCases : List Case
-lineCases =
-    (parityOf 0x525 ∷ parityOf 0x000 ∷ [] gives 1 ∷ 0 ∷ [])
-    ∷ (winnerOf (ordinary 0x100 ∷ ordinary 0x0FF ∷ []) ∷ lossesOf (ordinary 0x100 ∷ ordinary 0x0FF ∷ []) gives 1 ∷ 6
-    ∷ 0 ∷ [])
-    ∷ (winnerOf (ordinary 0x000 ∷ broadcast 0xFFF ∷ []) ∷ lossesOf (ordinary 0x000 ∷ broadcast 0xFFF ∷ []) gives 1 ∷ 2
-    ∷ 0 ∷ [])
-    ∷ []
+lineCases = (parityOf 0x525 ∷ parityOf 0x000 ∷ [] gives 1 ∷ 0 ∷ []) ∷ []
 
 pub line-cases : allGiven lineCases ≡ true
-unfolding allGiven lineCases parityOf ones onesIn lossesOf lossOf settled remaining levelOf numberOf firstPlace
+unfolding allGiven lineCases parityOf ones onesIn
 line-cases = refl

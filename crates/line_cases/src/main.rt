@@ -1,8 +1,8 @@
 // Runs the contest on the cases that document 01 names and on one of each refusal, and prints for each its number, the
 // place named and the first numbers of the list, which held 99 everywhere.
+use contest::contenders::Contenders;
+use contest::contenders::Outcome;
 use libc::STDOUT_FILENO;
-use line::contest::Contenders;
-use line::contest::Outcome;
 
 fn number(x: u64) {
     io::write_all(STDOUT_FILENO, b" ");

@@ -1,19 +1,18 @@
-// "The same run from a reset unit is exported to the bench host, written in C, over byte slices, each word
-// little-endian; it returns 0 or a refusal."
+// The list run "over byte slices, each word little-endian; it returns 0 or a refusal".
 ghost use mathlib.Core.Path.{_≡_};
 ghost use Prim.Native.Nat.{_+_, _<_, _≤_};
 ghost use lib.ListN.{length};
 ghost use Rattle.unit.specs.Both.{stateOf};
-ghost use Rattle.list_run.specs.Bytes.{CalledBytes, RunsSpelled, byteRefusal, bytesAfter, countRefusal, stateAfter};
+ghost use Rattle.list_run.specs.Bytes.{RunsSpelled, byteRefusal, bytesAfter, countRefusal, stateAfter};
 ghost use Rattle.list_run.specs.Bytes.{wordAt, wordPut};
 ghost use Rattle.list_run.specs.Run.{Whole};
 use crate::run::unit_of;
+use answers::answer_word;
 use line::numbers::RBF_BYTES;
 use line::numbers::REFUSED_BYTE_COUNT;
 use line::numbers::REFUSED_SHORT_LIST;
 use line::numbers::TBF_BYTES;
 use rules::answer::Answer;
-use unit::answer::answer_word;
 use unit::step::Lent;
 use unit::step::Unit;
 
@@ -127,13 +126,4 @@ pub fn run_bytes(from: Unit, words: &[u8], answers: &mut [u8]) -> RanBytes
         unit: unit_of(after, sent, stored),
         number,
     }
-}
-
-// The words run from a reset unit.
-#[no_mangle]
-pub extern "C" fn iebus_run(words: &[u8], answers: &mut [u8]) -> u32
-    ensures { λ r. ⌜ CalledBytes (now (words .entry)) (now (answers .entry)) r (now (answers .exit)) ⌝ }
-{
-    let ran = run_bytes(Unit::reset(), words, answers);
-    ran.number
 }

@@ -8,11 +8,12 @@ ghost use lib.ListN.{length, drop};
 ghost use Rattle.listing.specs.Printed.{printedOf, wholeWords};
 use libc::STDIN_FILENO;
 use libc::STDOUT_FILENO;
-use list_run::bytes::iebus_run;
+use list_run::bytes::run_bytes;
 use text::last::MOST_BYTES;
 use text::last::WORD_BYTES;
 use text::listing::LISTING_BYTES;
 use text::listing::listing;
+use unit::step::Unit;
 
 // One byte more than is listed, so that a byte that follows is seen.
 const INPUT_BYTES: usize = 16385;
@@ -37,7 +38,7 @@ fn listed(input: &[u8], text: &mut [u8]) -> usize
 {
     let mut answers = [0u8; MOST_BYTES];
     let whole = whole_words(input.len());
-    iebus_run(&input[0..whole], &mut answers);
+    run_bytes(Unit::reset(), &input[0..whole], &mut answers);
     listing(input, &answers, text)
 }
 

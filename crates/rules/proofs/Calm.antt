@@ -9,13 +9,13 @@ use lib.Dec.{T, eqb}
 use lib.ListN.{drop}
 use Rattle.line.specs.Choice.{pick}
 use Rattle.line.proofs.Either.{either}
-use Rattle.frame.specs.Set.{frame·control}
-use Rattle.frame.specs.Slaves.{writesOf, openTo}
-use Rattle.frame.specs.declared.place.Field.{Field}
-use Rattle.frame.specs.declared.place.Field.the-variants.{Broadcast, Master, Slave, Control, Length, Data}
-use Rattle.frame.specs.declared.place.Frame.{Frame}
-use Rattle.frame.specs.declared.place.Place.{Place}
-use Rattle.frame.specs.declared.place.Place.the-variants.{Waiting, In}
+use Rattle.place.specs.Set.{frame·control}
+use Rattle.place.specs.Slaves.{writesOf, openTo}
+use Rattle.place.specs.declared.Field.{Field}
+use Rattle.place.specs.declared.Field.the-variants.{Broadcast, Master, Slave, Control, Length, Data}
+use Rattle.place.specs.declared.Frame.{Frame}
+use Rattle.place.specs.declared.Place.{Place}
+use Rattle.place.specs.declared.Place.the-variants.{Waiting, In}
 use Rattle.isolation.specs.Words.{spells}
 use Rattle.rules.specs.Endings.{acted, draws, ties, lockAfter, partEnded, dataEnded, lengthEnded, endedOf}
 use Rattle.rules.specs.Endings.{frees, requestEnded, slaveEnded}

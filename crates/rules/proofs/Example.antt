@@ -14,13 +14,13 @@ use lib.ListN.{length, take}
 use lib.Seq.{take-take}
 use Rattle.line.specs.Parity as parity
 use Rattle.line.specs.Slot.{slotOf, classOf}
-use Rattle.frame.specs.Frame as frame
-use Rattle.frame.specs.Slaves as slaves
-use Rattle.frame.specs.Drive as drive
-use Rattle.frame.specs.Masters as masters
-use Rattle.frame.specs.Step as level
-use Rattle.frame.specs.Cases.{field}
-use Rattle.frame.specs.declared.place.Place.the-variants.{Waiting}
+use Rattle.place.specs.Frame as frame
+use Rattle.place.specs.Slaves as slaves
+use Rattle.place.specs.Drive as drive
+use Rattle.place.specs.Masters as masters
+use Rattle.place.specs.Step as level
+use Rattle.place.specs.Cases.{field}
+use Rattle.place.specs.declared.Place.the-variants.{Waiting}
 use Rattle.line.proofs.Either.{both}
 use Rattle.isolation.specs.Words.{count, framed, keeps, kept, levels, marked, marks, spaced, spells}
 use Rattle.isolation.specs.Runs.{Behind, Compared, Given, Protected, run}

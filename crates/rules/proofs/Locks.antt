@@ -13,23 +13,23 @@ use Rattle.line.specs.Slot.{Class, slot, host, classOf, kindOf}
 use Rattle.line.specs.declared.slot.Slot.{Slot}
 use Rattle.line.specs.declared.slot.Slot.the-variants.{Level, Start, Idle, Stray}
 use Rattle.line.proofs.Either.{either}
-use Rattle.frame.specs.Frame.{begunOf, doneOf, nextOf, shiftedOf, toField, withLength}
-use Rattle.frame.specs.Slaves.{acceptedOf, controlOf, openTo, strangerOf, writesOf}
-use Rattle.frame.specs.Masters.{clashOf, contestedOf, lostOf}
-use Rattle.frame.specs.Set.{frame·byte}
-use Rattle.frame.specs.Step as step
-use Rattle.frame.specs.Step.{moved}
-use Rattle.frame.specs.declared.place.Event.{Event}
-use Rattle.frame.specs.declared.place.Event.the-variants.{Nothing as Quiet, ControlAcked}
-use Rattle.frame.specs.declared.place.Event.the-variants.{LengthAcked}
-use Rattle.frame.specs.declared.place.Event.the-variants.{Aborted}
-use Rattle.frame.specs.declared.place.Field.{Field}
-use Rattle.frame.specs.declared.place.Field.the-variants.{Broadcast, Master, Slave, Control, Length, Data}
-use Rattle.frame.specs.declared.place.Frame.{Frame}
-use Rattle.frame.specs.declared.place.Moved.{Moved}
-use Rattle.frame.specs.declared.place.Place.{Place}
-use Rattle.frame.specs.declared.place.Place.the-variants.{Waiting, In}
-use Rattle.frame.specs.declared.place.View.{View}
+use Rattle.place.specs.Frame.{begunOf, doneOf, nextOf, shiftedOf, toField, withLength}
+use Rattle.place.specs.Slaves.{acceptedOf, controlOf, openTo, strangerOf, writesOf}
+use Rattle.place.specs.Masters.{clashOf, contestedOf, lostOf}
+use Rattle.place.specs.Set.{frame·byte}
+use Rattle.place.specs.Step as step
+use Rattle.place.specs.Step.{moved}
+use Rattle.place.specs.declared.Event.{Event}
+use Rattle.place.specs.declared.Event.the-variants.{Nothing as Quiet, ControlAcked}
+use Rattle.place.specs.declared.Event.the-variants.{LengthAcked}
+use Rattle.place.specs.declared.Event.the-variants.{Aborted}
+use Rattle.place.specs.declared.Field.{Field}
+use Rattle.place.specs.declared.Field.the-variants.{Broadcast, Master, Slave, Control, Length, Data}
+use Rattle.place.specs.declared.Frame.{Frame}
+use Rattle.place.specs.declared.Moved.{Moved}
+use Rattle.place.specs.declared.Place.{Place}
+use Rattle.place.specs.declared.Place.the-variants.{Waiting, In}
+use Rattle.place.specs.declared.View.{View}
 use Rattle.isolation.specs.Runs.{run}
 use Rattle.rules.specs.Machine.{unit, waiting}
 use Rattle.rules.specs.Set.{core·frame, core·idle}

@@ -9,13 +9,13 @@ use lib.ListN.{drop}
 use Rattle.line.specs.Choice.{bitOf, _▹_}
 use Rattle.line.specs.Slot.{Class, slot, host, classOf}
 use Rattle.line.specs.declared.slot.Slot.the-variants.{Level, Start, Idle, Stray}
-use Rattle.frame.specs.Frame.{begunOf, doneOf}
-use Rattle.frame.specs.Drive as drive
-use Rattle.frame.specs.Slaves.{writesOf}
-use Rattle.frame.specs.Step as step
-use Rattle.frame.specs.declared.place.Field.the-variants.{Broadcast, Master, Slave, Control, Length, Data}
-use Rattle.frame.specs.declared.place.Place.{Place}
-use Rattle.frame.specs.declared.place.Place.the-variants.{Waiting, In}
+use Rattle.place.specs.Frame.{begunOf, doneOf}
+use Rattle.place.specs.Drive as drive
+use Rattle.place.specs.Slaves.{writesOf}
+use Rattle.place.specs.Step as step
+use Rattle.place.specs.declared.Field.the-variants.{Broadcast, Master, Slave, Control, Length, Data}
+use Rattle.place.specs.declared.Place.{Place}
+use Rattle.place.specs.declared.Place.the-variants.{Waiting, In}
 use Rattle.isolation.specs.Words.{spells}
 use Rattle.isolation.specs.Runs.{shown, latest, Protected}
 use Rattle.isolation.proofs.Unwind.{protected}

@@ -13,7 +13,7 @@ use Rattle.line.specs.Slot.{Class, slot, host, classOf, kindOf, slotOf, slots}
 use Rattle.line.proofs.Either.{by-value, either}
 use Rattle.line.specs.declared.slot.Slot.{Slot}
 use Rattle.line.specs.declared.slot.Slot.the-variants.{Level, Start, Idle, Stray}
-use Rattle.frame.specs.Slaves.{writesOf}
+use Rattle.place.specs.Slaves.{writesOf}
 use Rattle.rules.specs.declared.answer.Answer.{Answer}
 use Rattle.rules.specs.declared.answer.Answer.the-variants.{Given, Refused}
 use Rattle.rules.specs.declared.answer.Reply.{Reply}

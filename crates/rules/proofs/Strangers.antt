@@ -11,27 +11,27 @@ use lib.Dec.{eqb, ltb}
 use lib.Pow.{pow-mono}
 use Rattle.line.specs.Choice.{pick, bitOf, _▹_}
 use Rattle.line.specs.Parity.{parityHolds}
-use Rattle.frame.specs.Frame.{doneOf, nextOf, shiftOf, shiftedOf, toField, withLength}
-use Rattle.frame.specs.Slaves.{acceptedOf, byValue, controlOf, openTo, strangerOf, writesOf}
-use Rattle.frame.specs.Masters.{clashOf, ownBit}
-use Rattle.frame.specs.Drive.{driveOf}
-use Rattle.frame.specs.Set.{frame·broadcast, frame·byte}
-use Rattle.frame.specs.Step.{moved, goOn, afterAck, headerAck, textAck, atBroadcast, masterOf, atMaster}
-use Rattle.frame.specs.Step.{withSlave}
-use Rattle.frame.specs.Step.{slaveJudged, atSlave, withControl, controlJudged, atControl, lengthJudged, atLength}
-use Rattle.frame.specs.Step.{dataJudged, countedOf, ackedOf, lastOf, wholeOf, endsOf, againOf, dataAcked, atData}
-use Rattle.frame.specs.Step.{atField}
-use Rattle.frame.specs.Step.{inField, atPlace, levelOf}
-use Rattle.frame.specs.declared.judging.Judged.the-variants.{Nak}
-use Rattle.frame.specs.declared.place.Event.the-variants.{Nothing as Quiet, Addressed, ControlAcked, LengthAcked}
-use Rattle.frame.specs.declared.place.Event.the-variants.{ByteAcked, Aborted}
-use Rattle.frame.specs.declared.place.Field.{Field}
-use Rattle.frame.specs.declared.place.Field.the-variants.{Broadcast, Master, Slave, Control, Length, Data}
-use Rattle.frame.specs.declared.place.Frame.{Frame}
-use Rattle.frame.specs.declared.place.Moved.{Moved}
-use Rattle.frame.specs.declared.place.Place.{Place}
-use Rattle.frame.specs.declared.place.Place.the-variants.{Waiting, In}
-use Rattle.frame.specs.declared.place.View.{View}
+use Rattle.place.specs.Frame.{doneOf, nextOf, shiftOf, shiftedOf, toField, withLength}
+use Rattle.place.specs.Slaves.{acceptedOf, byValue, controlOf, openTo, strangerOf, writesOf}
+use Rattle.place.specs.Masters.{clashOf, ownBit}
+use Rattle.place.specs.Drive.{driveOf}
+use Rattle.place.specs.Set.{frame·broadcast, frame·byte}
+use Rattle.place.specs.Step.{moved, goOn, afterAck, headerAck, textAck, atBroadcast, masterOf, atMaster}
+use Rattle.place.specs.Step.{withSlave}
+use Rattle.place.specs.Step.{slaveJudged, atSlave, withControl, controlJudged, atControl, lengthJudged, atLength}
+use Rattle.place.specs.Step.{dataJudged, countedOf, ackedOf, lastOf, wholeOf, endsOf, againOf, dataAcked, atData}
+use Rattle.place.specs.Step.{atField}
+use Rattle.place.specs.Step.{inField, atPlace, levelOf}
+use Rattle.place.specs.declared.control.Judged.the-variants.{Nak}
+use Rattle.place.specs.declared.Event.the-variants.{Nothing as Quiet, Addressed, ControlAcked, LengthAcked}
+use Rattle.place.specs.declared.Event.the-variants.{ByteAcked, Aborted}
+use Rattle.place.specs.declared.Field.{Field}
+use Rattle.place.specs.declared.Field.the-variants.{Broadcast, Master, Slave, Control, Length, Data}
+use Rattle.place.specs.declared.Frame.{Frame}
+use Rattle.place.specs.declared.Moved.{Moved}
+use Rattle.place.specs.declared.Place.{Place}
+use Rattle.place.specs.declared.Place.the-variants.{Waiting, In}
+use Rattle.place.specs.declared.View.{View}
 use Rattle.isolation.specs.Words.{spells}
 use Rattle.rules.specs.Set.{core·frame}
 use Rattle.rules.specs.Endings.{acted, endedOf, leftOf}

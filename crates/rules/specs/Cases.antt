@@ -6,15 +6,16 @@ use Prim.Native.Nat.{ℕ, _+_, _*_}
 use lib.Count.{ones, onesIn}
 use Rattle.line.specs.Choice.{bitOf}
 use Rattle.line.specs.Cases.{Case, _gives_, allGiven, lineCases}
-use Rattle.line.specs.Contest.{numberOf, settled, remaining, lossOf, lossesOf, firstPlace}
+use Rattle.contest.specs.Cases.{contestCases}
+use Rattle.contest.specs.Contest.{numberOf, settled, remaining, lossOf, lossesOf, firstPlace}
 use Rattle.line.specs.Parity as parity
 use Rattle.line.specs.Slot.{slotOf, classOf}
-use Rattle.frame.specs.Frame as frame
-use Rattle.frame.specs.Slaves as slaves
-use Rattle.frame.specs.Drive as drive
-use Rattle.frame.specs.Masters as masters
-use Rattle.frame.specs.Step as level
-use Rattle.frame.specs.Cases.{field, frameCases, slotsTaken}
+use Rattle.place.specs.Frame as frame
+use Rattle.place.specs.Slaves as slaves
+use Rattle.place.specs.Drive as drive
+use Rattle.place.specs.Masters as masters
+use Rattle.place.specs.Step as level
+use Rattle.place.specs.Cases.{field, frameCases, slotsTaken}
 use Rattle.isolation.specs.Runs.{run, answers}
 use Rattle.rules.specs.State as state
 use Rattle.rules.specs.Endings as endings
@@ -158,8 +159,8 @@ unitCases =
     ∷ []
 
 -- every marked case
-pub unit-cases : allGiven (lineCases ++ frameCases ++ unitCases) ≡ true
-unfolding allGiven lineCases frameCases unitCases ones onesIn lossesOf lossOf settled remaining numberOf firstPlace
+pub unit-cases : allGiven (lineCases ++ contestCases ++ frameCases ++ unitCases) ≡ true
+unfolding allGiven lineCases contestCases frameCases unitCases ones onesIn lossesOf lossOf settled remaining numberOf firstPlace
     parity.parityOf parity.parityHolds parity.levelOf parity.levelsOf slotOf classOf slotsTaken frame.limitOf
     frame.lengthOf frame.shiftOf frame.begunOf frame.toField frame.doneOf frame.nextOf frame.shiftedOf
     frame.withLength slaves.addressedOf slaves.writesOf slaves.strangerOf slaves.openTo slaves.byValue

@@ -3,7 +3,7 @@ use mathlib.Core.Bool.{Bool, true}
 use mathlib.Core.Path.{_≡_}
 use mathlib.Core.List.{List}
 use Prim.Native.Nat.{ℕ}
-use Rattle.frame.specs.declared.place.Place.the-variants.{Waiting}
+use Rattle.place.specs.declared.Place.the-variants.{Waiting}
 use Rattle.isolation.specs.Runs.{Machine}
 use Rattle.rules.specs.State.{State}
 use Rattle.rules.specs.Step.{stepOf, answerOf, wordOf}

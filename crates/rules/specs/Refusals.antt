@@ -14,7 +14,7 @@ use Rattle.line.specs.Numbers.{refusedOutOfTurn, refusedFull, refusedTooFew, re
 use Rattle.line.specs.Numbers.{ctrNothing, ctrReset, ctrSetSlre, cmrRequest, cmrOffer, cmrClearSlre, cmrCopyLock}
 use Rattle.line.specs.Numbers.{regCtr, regCmr, regUar1, regUar2, regSar1, regSar2, regMcr, regTbf}
 use Rattle.line.specs.Numbers.{regStr, regFlg, regRdr1, regRdr2, regLor1, regLor2, regRcr, regRbf}
-use Rattle.frame.specs.Slaves.{writesOf}
+use Rattle.place.specs.Slaves.{writesOf}
 use Rattle.rules.specs.declared.answer.Answer.{Answer}
 use Rattle.rules.specs.declared.answer.Answer.the-variants.{Given, Refused}
 use Rattle.rules.specs.declared.state.Registers.{Registers}

@@ -11,7 +11,7 @@ use Rattle.line.specs.Numbers.{refusedOutOfTurn, refusedFull, refusedTooFew, re
 use Rattle.line.specs.Numbers.{tbfBytes, ctrNothing, ctrReset, ctrSetSlre, cmrRequest, cmrOffer, cmrClearSlre}
 use Rattle.line.specs.Numbers.{cmrCopyLock, regCtr, regCmr, regUar1, regUar2, regSar1, regSar2, regMcr, regTbf}
 use Rattle.line.specs.Numbers.{regStr, regFlg, regRdr1, regRdr2, regLor1, regLor2, regRcr, regRbf}
-use Rattle.frame.specs.Slaves.{writesOf}
+use Rattle.place.specs.Slaves.{writesOf}
 use Rattle.rules.specs.declared.state.Registers.{Registers}
 use Rattle.rules.specs.Set.{registers·own, registers·enabled, registers·long, registers·slave, registers·bit}
 use Rattle.rules.specs.Set.{registers·retries}

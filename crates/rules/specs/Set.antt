@@ -1,6 +1,6 @@
 -- One field of a struct replaced: antt has no record update.
 use Prim.Native.Nat.{ℕ}
-use Rattle.frame.specs.declared.place.Frame.{Frame}
+use Rattle.place.specs.declared.Frame.{Frame}
 use Rattle.rules.specs.declared.state.Act.{Act}
 use Rattle.rules.specs.declared.state.Acted.{Acted}
 use Rattle.rules.specs.declared.state.Core.{Core}

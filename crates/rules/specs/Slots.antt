@@ -4,19 +4,21 @@ use mathlib.Core.Bool.{Bool, true, false, not, _&&_}
 use lib.Dec.{eqb, leb, ltb}
 use Rattle.line.specs.Choice.{pick, bitOf, _▹_}
 use Rattle.line.specs.Numbers.{codeSending, codeWanted, driveReleased, driveStart}
-use Rattle.frame.specs.Frame.{begunOf, withLength}
-use Rattle.frame.specs.Set.{frame·byte}
-use Rattle.frame.specs.Slaves.{writesOf}
-use Rattle.frame.specs.Drive.{driveOf}
-use Rattle.frame.specs.Step as step
-use Rattle.frame.specs.declared.place.Event.{Event}
-use Rattle.frame.specs.declared.place.Event.the-variants.{Nothing as Quiet, Lost, Addressed, ControlAcked}
-use Rattle.frame.specs.declared.place.Event.the-variants.{LengthAcked, ByteAcked}
-use Rattle.frame.specs.declared.place.Event.the-variants.{AllAcked, ShortAcked, Aborted}
-use Rattle.frame.specs.declared.place.Moved.{Moved}
-use Rattle.frame.specs.declared.place.Frame.{Frame}
-use Rattle.frame.specs.declared.place.Place.{Place}
-use Rattle.frame.specs.declared.place.Place.the-variants.{Waiting, In}
+use Rattle.line.specs.declared.slot.Slot.{Slot}
+use Rattle.line.specs.declared.slot.Slot.the-variants.{Level, Start, Idle, Stray}
+use Rattle.place.specs.Frame.{begunOf, withLength}
+use Rattle.place.specs.Set.{frame·byte}
+use Rattle.place.specs.Slaves.{writesOf}
+use Rattle.place.specs.Drive.{driveOf}
+use Rattle.place.specs.Step as step
+use Rattle.place.specs.declared.Event.{Event}
+use Rattle.place.specs.declared.Event.the-variants.{Nothing as Quiet, Lost, Addressed, ControlAcked}
+use Rattle.place.specs.declared.Event.the-variants.{LengthAcked, ByteAcked}
+use Rattle.place.specs.declared.Event.the-variants.{AllAcked, ShortAcked, Aborted}
+use Rattle.place.specs.declared.Moved.{Moved}
+use Rattle.place.specs.declared.Frame.{Frame}
+use Rattle.place.specs.declared.Place.{Place}
+use Rattle.place.specs.declared.Place.the-variants.{Waiting, In}
 use Rattle.rules.specs.declared.state.Acted.{Acted}
 use Rattle.rules.specs.declared.state.Act.{Act}
 use Rattle.rules.specs.declared.state.Core.{Core}
@@ -153,6 +155,15 @@ onMoved c m seen = onEvent (m .event) c (m .frame) seen
 unfoldable pub onLevel : Core → Bool → Seen → Acted
 onLevel c bit seen =
     onMoved (c ▹ core·idle false) (step.levelOf (c .frame) bit (viewOf (c .regs) (seen .clear))) seen
+
+-- ---- a slot
+
+-- what a slot that is not refused does to a unit; a stray bit is no slot
+unfoldable pub onSlot : Core → Slot → Seen → Acted
+onSlot c (Level bit) seen = onLevel c bit seen
+onSlot c Start seen = onStart c (seen .clear)
+onSlot c Idle seen = onIdle c
+onSlot c Stray seen = acted Nothing c
 
 -- ---- what the unit drives in the next slot: "0, 1 (released) or 2 (start)"
 

@@ -6,9 +6,9 @@ use lib.Dec.{eqb, ltb}
 use lib.ListN.{length, drop, getD}
 use Rattle.line.specs.Choice.{pick, bitOf}
 use Rattle.line.specs.Numbers.{codeAtReset, rbfBytes}
-use Rattle.frame.specs.Frame.{noFrame}
-use Rattle.frame.specs.Slaves.{writesOf}
-use Rattle.frame.specs.declared.place.View.{View}
+use Rattle.place.specs.Frame.{noFrame}
+use Rattle.place.specs.Slaves.{writesOf}
+use Rattle.place.specs.declared.View.{View}
 use Rattle.rules.specs.declared.state.Act.{Act}
 use Rattle.rules.specs.declared.state.Core.{Core}
 use Rattle.rules.specs.declared.state.Registers.{Registers}

@@ -1,5 +1,5 @@
 // The state of a unit without the bytes of its buffers, and what passes between its parts.
-use frame::place::Frame;
+use place::Frame;
 
 // The registers, flags and codes, and the lock: what lasts, without the buffers.
 pub struct Registers {

@@ -11,27 +11,27 @@ use Rattle.line.specs.Numbers.{driveLow, driveReleased, driveStart}
 use Rattle.line.specs.Slot.{classOf, slotOf}
 use Rattle.line.specs.declared.slot.Slot.the-variants.{Level}
 use Rattle.line.proofs.Either.{both, by-value}
-use Rattle.frame.specs.Drive.{driveAt as inFrame, driveIn, driveOf, repliedOf}
-use Rattle.frame.specs.Frame.{nextOf, shiftedOf, widthOf}
-use Rattle.frame.specs.Masters.{clashOf, ownBit}
-use Rattle.frame.specs.Step.{atControl, atData, atField, atLength, atMaster, atPlace, atSlave, inField, levelOf, moved}
-use Rattle.frame.specs.declared.place.Event.the-variants.{Nothing as Quiet}
-use Rattle.frame.specs.declared.place.Field.{Field}
-use Rattle.frame.specs.declared.place.Field.the-variants.{Broadcast, Master, Slave, Control, Length, Data}
-use Rattle.frame.specs.declared.place.Frame.{Frame}
-use Rattle.frame.specs.declared.place.Place.{Place}
-use Rattle.frame.specs.declared.place.Place.the-variants.{Waiting, In}
-use Rattle.frame.specs.declared.place.View.{View}
+use Rattle.place.specs.Drive.{driveAt as inFrame, driveIn, driveOf, repliedOf}
+use Rattle.place.specs.Frame.{nextOf, shiftedOf, widthOf}
+use Rattle.place.specs.Masters.{clashOf, ownBit}
+use Rattle.place.specs.Step.{atControl, atData, atField, atLength, atMaster, atPlace, atSlave, inField, levelOf, moved}
+use Rattle.place.specs.declared.Event.the-variants.{Nothing as Quiet}
+use Rattle.place.specs.declared.Field.{Field}
+use Rattle.place.specs.declared.Field.the-variants.{Broadcast, Master, Slave, Control, Length, Data}
+use Rattle.place.specs.declared.Frame.{Frame}
+use Rattle.place.specs.declared.Place.{Place}
+use Rattle.place.specs.declared.Place.the-variants.{Waiting, In}
+use Rattle.place.specs.declared.View.{View}
 use Rattle.rules.specs.declared.answer.Answer.the-variants.{Given}
 use Rattle.rules.specs.declared.answer.Reply.the-variants.{Taken}
 use Rattle.rules.specs.declared.state.Act.the-variants.{Nothing}
 use Rattle.rules.specs.declared.state.Acted.{Acted}
 use Rattle.rules.specs.declared.state.Core.{Core}
 use Rattle.rules.specs.declared.state.Seen.{Seen}
-use Rattle.unit.specs.Both.{afterSlot, afterWord, slotActed, slotRefusal, takenIn}
+use Rattle.unit.specs.Both.{afterSlot, afterWord, slotRefusal, takenIn}
 use Rattle.rules.specs.Endings.{acted}
 use Rattle.unit.specs.Plain.{amidAt, amidOf, insideOf, listenedAt, listenedOf, plainAt, plainCore, plainOf, tookOn}
-use Rattle.rules.specs.Slots.{coreDrive, driveAt, onEvent, onLevel}
+use Rattle.rules.specs.Slots.{coreDrive, driveAt, onEvent, onLevel, onSlot}
 use Rattle.rules.specs.State.{State, isEmpty, rbfAfter, seenOf, takesPart, tbfAfter, viewOf}
 use Rattle.rules.specs.Step.{actedOn, answerOf, clashes, nextDrive, stepOf}
 use Rattle.rules.proofs.Calm.{pick-no, pick-yes}
@@ -182,7 +182,7 @@ acts-agreeing c bit seen e d =
 only-taken-in : (s : State) (bit : Bool) → clashes s bit ≡ false
     → onLevel (s .core) bit (seenOf (s .tbf) (s .rbf)) ≡ acted Nothing (plainCore (s .core) bit)
     → takenIn (tookOn s bit) ≡ afterSlot s (Level bit)
-unfolding slotRefusal slotActed tbfAfter rbfAfter
+unfolding slotRefusal onSlot tbfAfter rbfAfter
 only-taken-in s bit free acts =
     ap (λ (a : Acted). takenIn (actedOn s a)) (sym acts) ∙ slot-taken s (Level bit) (rw free refl)
 

@@ -15,18 +15,16 @@ use Rattle.unit.specs.declared.answer.Outcome.{Outcome}
 use Rattle.unit.specs.declared.answer.Outcome.the-variants.{Taken as took, Written as wrote, Read as read}
 use Rattle.unit.specs.declared.answer.Outcome.the-variants.{Refused as denied}
 use Rattle.rules.specs.declared.answer.Reply.the-variants.{Taken, Written, Read}
-use Rattle.rules.specs.declared.state.Act.the-variants.{Nothing}
 use Rattle.rules.specs.declared.state.Acted.{Acted}
 use Rattle.rules.specs.declared.state.Seen.{Seen}
 use Rattle.unit.specs.declared.step.Answered.{Answered}
 use Rattle.unit.specs.declared.step.Done.{Done}
 use Rattle.unit.specs.declared.step.Lent.{Lent}
 use Rattle.unit.specs.declared.step.Unit.{Unit}
-use Rattle.rules.specs.Endings.{acted}
 use Rattle.unit.specs.Queue.{circleOf, tbfOf, rbfOf}
 use Rattle.rules.specs.Registers.{Told, toldOf, readTold, writeDone, writeTold}
-use Rattle.rules.specs.Slots.{onIdle, onLevel, onStart}
-use Rattle.rules.specs.State.{State, isEmpty, reset, seenOf}
+use Rattle.rules.specs.Slots.{onSlot}
+use Rattle.rules.specs.State.{State, reset, seenOf}
 use Rattle.rules.specs.Step.{actedOn, answerOf, clashes, nextDrive, slotOn, slotSaid, stepOf, toldOn, toldSaid}
 
 -- a unit whose buffers are lent: the bytes of TBF and of RBF
@@ -98,11 +96,8 @@ slotRefusal s Start = 0
 slotRefusal s Idle = 0
 slotRefusal s Stray = refusedStrayBit
 
-unfoldable pub slotActed : State → Slot → Acted
-slotActed s (Level bit) = onLevel (s .core) bit (seenOf (s .tbf) (s .rbf))
-slotActed s Start = onStart (s .core) (isEmpty (s .rbf))
-slotActed s Idle = onIdle (s .core)
-slotActed s Stray = acted Nothing (s .core)
+abbrev pub slotActed : State → Slot → Acted
+slotActed s c = onSlot (s .core) c (seenOf (s .tbf) (s .rbf))
 
 -- ---- what the functions of a unit whose buffers are lent promise, over any bytes that they are not lent
 

@@ -8,12 +8,12 @@ use mathlib.Core.Path.{_≡_}
 use lib.Dec.{eqb, ltb}
 use Rattle.line.specs.Choice.{_▹_}
 use Rattle.line.specs.Numbers.{driveReleased}
-use Rattle.frame.specs.Frame.{shiftedOf, widthOf}
-use Rattle.frame.specs.declared.place.Field.{Field}
-use Rattle.frame.specs.declared.place.Field.the-variants.{Broadcast, Master, Slave, Control, Length, Data}
-use Rattle.frame.specs.declared.place.Frame.{Frame}
-use Rattle.frame.specs.declared.place.Place.{Place}
-use Rattle.frame.specs.declared.place.Place.the-variants.{Waiting, In}
+use Rattle.place.specs.Frame.{shiftedOf, widthOf}
+use Rattle.place.specs.declared.Field.{Field}
+use Rattle.place.specs.declared.Field.the-variants.{Broadcast, Master, Slave, Control, Length, Data}
+use Rattle.place.specs.declared.Frame.{Frame}
+use Rattle.place.specs.declared.Place.{Place}
+use Rattle.place.specs.declared.Place.the-variants.{Waiting, In}
 use Rattle.rules.specs.declared.answer.Answer.the-variants.{Given}
 use Rattle.rules.specs.declared.answer.Reply.the-variants.{Taken}
 use Rattle.rules.specs.declared.state.Core.{Core}

@@ -1,13 +1,10 @@
 // A word of the host's at a unit whose buffers are lent: writes and reads of its registers.
+ghost use mathlib.Core.Path.{_≡_};
+ghost use Rattle.rules.specs.Set.{core·regs};
 ghost use Rattle.unit.specs.Both.{Does, ReadsFrom, TakesOut, Tells, WritesTo};
 use crate::answer::Outcome;
 use crate::buffers::rbf_front;
 use crate::buffers::tbf_push;
-use crate::registers::read_refusal;
-use crate::registers::read_value;
-use crate::registers::write;
-use crate::registers::write_refusal;
-use crate::state::with_regs;
 use crate::step::Done;
 use crate::step::Lent;
 use line::numbers::CTR_RESET;
@@ -20,6 +17,19 @@ use line::numbers::REG_CTR;
 use line::numbers::REG_RBF;
 use line::numbers::REG_TBF;
 use line::numbers::TBF_BYTES;
+use registers::read_refusal;
+use registers::read_value;
+use registers::write;
+use registers::write_refusal;
+use rules::state::Core;
+use rules::state::Registers;
+
+fn with_regs(mut core: Core, regs: Registers) -> Core
+    ensures { λ r. ⌜ r ≡ core·regs regs core ⌝ }
+{
+    core.regs = regs;
+    core
+}
 
 impl Lent {
     // An accepted write.

@@ -5,10 +5,10 @@ ghost use mathlib.Core.Path.{_≡_};
 ghost use Rattle.unit.specs.Plain.{Agreed, Agrees, amidOf, insideOf, listenedOf, plainOf, plainly, tookBy};
 use crate::step::Answered;
 use crate::step::Lent;
-use frame::place::Field;
-use frame::place::Frame;
-use frame::place::Place;
 use line::numbers::DRIVE_RELEASED;
+use place::Field;
+use place::Frame;
+use place::Place;
 use rules::answer::Answer;
 use rules::answer::Reply;
 

@@ -1,14 +1,8 @@
-// What is worked out from the state of a unit, and its reset.
+// A reset of the scalars.
 ghost use mathlib.Core.Path.{_≡_};
-ghost use Rattle.rules.specs.Endings.{acted};
-ghost use Rattle.rules.specs.Set.{core·regs};
-ghost use Rattle.rules.specs.State.{ownByte, resetCore, resetRegisters, statusByte, takesPart, viewOf};
-use frame::place::Frame;
-use frame::place::View;
-use frame::writes;
+ghost use Rattle.rules.specs.State.{resetCore, resetRegisters};
 use line::numbers::CODE_AT_RESET;
-use rules::state::Act;
-use rules::state::Acted;
+use place::Frame;
 use rules::state::Core;
 use rules::state::Registers;
 
@@ -39,54 +33,6 @@ fn reset_registers() -> Registers
     }
 }
 
-// What a frame sees of the unit.
-pub(crate) fn view(regs: Registers, clear: bool) -> View
-    ensures { λ r. ⌜ r ≡ viewOf regs clear ⌝ }
-{
-    View {
-        own: regs.own,
-        bit: regs.bit,
-        slave: regs.slave,
-        control: regs.control,
-        strq: regs.strq,
-        ready: regs.slre & clear,
-        locked: regs.locked,
-        holder: regs.holder,
-    }
-}
-
-// A request stands and does not hold back: "a read request holds back while RBF is not empty".
-pub(crate) fn takes_part(regs: Registers, clear: bool) -> bool
-    ensures { λ r. ⌜ r ≡ takesPart regs clear ⌝ }
-{
-    regs.marq & (writes(regs.control) | clear)
-}
-
-// "The status byte has bit 0 STRQ, bit 1 RBF not empty (table 2-5), bit 2 locked, bit 4 sending enabled, bits 7-6
-// = 10".
-fn status_byte(regs: Registers, clear: bool) -> u8
-    ensures { λ r. ⌜ r ≡ statusByte regs clear ⌝ }
-{
-    let filled = !clear;
-    128 + (regs.enabled as u8) * 16 + (regs.locked as u8) * 4 + (filled as u8) * 2 + regs.strq as u8
-}
-
-// The byte that a slave sends of itself: the holder's low 8 bits with 4H, its high 4 with 5H, or the status.
-pub(crate) fn own_byte(regs: Registers, control: u8, clear: bool) -> u8
-    ensures { λ r. ⌜ r ≡ ownByte regs control clear ⌝ }
-{
-    if control == 4 {
-        return (regs.holder % 256) as u8;
-    }
-    if control == 5 {
-        if regs.locked {
-            return (regs.holder / 256 % 16) as u8;
-        }
-        return 0;
-    }
-    status_byte(regs, clear)
-}
-
 // ".. waiting for a start, idle not seen."
 pub(crate) fn reset_core() -> Core
     ensures { λ r. ⌜ r ≡ resetCore ⌝ }
@@ -98,18 +44,4 @@ pub(crate) fn reset_core() -> Core
         frame,
         idle: false,
     }
-}
-
-pub(crate) fn with_regs(mut core: Core, regs: Registers) -> Core
-    ensures { λ r. ⌜ r ≡ core·regs regs core ⌝ }
-{
-    core.regs = regs;
-    core
-}
-
-// With something to be done to the buffers.
-pub(crate) fn acting(core: Core, act: Act) -> Acted
-    ensures { λ r. ⌜ r ≡ acted act core ⌝ }
-{
-    Acted { core, act }
 }

@@ -14,10 +14,6 @@ use crate::buffers::rbf_after;
 use crate::buffers::tbf_after;
 use crate::buffers::tbf_front;
 use crate::plain::plain;
-use crate::slots::core_drive;
-use crate::slots::on_idle;
-use crate::slots::on_level;
-use crate::slots::on_start;
 use crate::state::reset_core;
 use line::numbers::DRIVE_LOW;
 use line::numbers::KIND_SLOT;
@@ -29,10 +25,11 @@ use line::numbers::TBF_BYTES;
 use line::slot::Slot;
 use line::slot::slot_of;
 use rules::answer::Answer;
-use rules::state::Act;
 use rules::state::Acted;
 use rules::state::Core;
 use rules::state::Seen;
+use slots::core_drive;
+use slots::on_slot;
 
 // All of a unit but the bytes of its buffers, which are lent.
 pub struct Lent {
@@ -69,7 +66,7 @@ pub struct Stepped {
 impl Lent {
     // "Reset: RCR FFH, MCR 80H, all else zero or empty, waiting for a start, idle not seen." The bytes lent are of no
     // account.
-    pub fn reset() -> Lent
+    pub(crate) fn reset() -> Lent
         ensures { λ r. ⌜ Fresh r ⌝ }
     {
         let core = reset_core();
@@ -79,7 +76,7 @@ impl Lent {
     }
 
     // What the unit drives in the next slot: 0, 1 (released) or 2 (start).
-    pub fn drive(self) -> u8
+    pub(crate) fn drive(self) -> u8
         ensures { λ r. ⌜ Drives self r ⌝ }
     {
         let rbf = self.rbf;
@@ -151,17 +148,7 @@ impl Lent {
     fn slot_acted(self, slot: Slot, tbf: &[u8; TBF_BYTES]) -> Acted
         ensures { λ r. ⌜ SlotActs self slot (now (tbf .entry)) r ⌝ }
     {
-        let stored = self.rbf;
-        let core = self.core;
-        match slot {
-            Slot::Level(bit) => on_level(core, bit, self.seen(tbf)),
-            Slot::Start => on_start(core, stored.is_empty(RBF_BYTES)),
-            Slot::Idle => on_idle(core),
-            Slot::Stray => Acted {
-                core,
-                act: Act::Nothing,
-            },
-        }
+        on_slot(self.core, slot, self.seen(tbf))
     }
 
     fn slot(self, slot: Slot, tbf: &[u8; TBF_BYTES], rbf: &mut [u8; RBF_BYTES]) -> Done

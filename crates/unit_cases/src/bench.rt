@@ -1,5 +1,6 @@
 // A unit on a bench: the host that writes and reads its registers, and the line that it shares with another party.
 ghost use Prim.Native.Nat.{_≤_};
+use answers::answer_word;
 use line::numbers::DRIVE_RELEASED;
 use line::numbers::KIND_READ;
 use line::numbers::KIND_REFUSED;
@@ -11,7 +12,6 @@ use line::numbers::SLOT_IDLE;
 use line::numbers::SLOT_LOW;
 use line::numbers::SLOT_START;
 use std::num::wrapping_add_u64;
-use unit::answer::answer_word;
 use unit::step::Unit;
 
 // A sum over answers that tells their order too: each time the sum is multiplied and the answer added, modulo the

@@ -3,6 +3,7 @@ use Prim.Native.Nat.{ℕ, _-_}
 use native.Mathlib.Omega.{arith}
 use lib.ListN.{length, take, replicate}
 use Rattle.list_run.specs.Bytes.{bytesAfter}
+use Rattle.list_run.proofs.Spelled.{same-answers}
 use Rattle.rules.specs.State.{reset}
 use Rattle.text.specs.Last.{mostBytes}
 use Rattle.listing.specs.Printed.{answeredOf, printedOf, wholeWords}
@@ -16,6 +17,7 @@ listed-spec =
     tie.close
     (tie.spec
     (λ c κs. search needs)
+    (λ c κs. search needs)
     (λ c. search needs)
     (λ c. search needs)
     (λ c. search needs)
@@ -25,11 +27,12 @@ listed-spec =
     (λ c κs. search needs)
     (λ c. search needs)
     (λ c. let ran = c .before .before .before .before .before .before in
-    let entry = ran .before .before .before .before .before .before .args in
+    let entry = ran .before .before .before .before .before .before .before .args in
     let input = entry .input .now in
     let from-zero : wholeWords (length input) - 0 ≡ wholeWords (length input) = omega arith in
-    let is : ran .iebus-run .last .1 .0 ≡ answeredOf input =
-    (rw (ran .before .before .before .whole-words .ensures .0) at (ran .iebus-run .ensures .written))
+    let is : ran .run-bytes .last .1 .1 .0 ≡ answeredOf input =
+    (rw (ran .before .before .before .before .whole-words .ensures .0)
+    at (ran .run-bytes .ensures .1 .1 ∙ same-answers _ _ _ _ (ran .before .before .before .reset .ensures)))
     ∙ ap (λ (k : ℕ). bytesAfter reset (take k input) (replicate mostBytes 0)) from-zero
     in
     let listed = c .before .before .listing .ensures in

@@ -1,4 +1,4 @@
-use Rattle.frame.specs.Drive.{repliedOf}
+use Rattle.place.specs.Drive.{repliedOf}
 use borrow.Author.Needs.{needs}
 use Rattle.frame.proofs.driving.answer.Statement.{statement}
 use Rattle.frame.proofs.driving.answer.Tie as tie

@@ -1,4 +1,4 @@
-use Rattle.frame.specs.Drive.{driveOf}
+use Rattle.place.specs.Drive.{driveOf}
 use borrow.Author.Needs.{needs}
 use Rattle.frame.proofs.driving.drive.Statement.{statement}
 use Rattle.frame.proofs.driving.drive.Tie as tie

@@ -1,4 +1,4 @@
-use Rattle.frame.specs.Drive.{driveIn}
+use Rattle.place.specs.Drive.{driveIn}
 use borrow.Author.Needs.{needs}
 use Rattle.frame.proofs.driving.drive_in.Statement.{statement}
 use Rattle.frame.proofs.driving.drive_in.Tie as tie

@@ -1,4 +1,4 @@
-use Rattle.frame.specs.Drive.{sentOf}
+use Rattle.place.specs.Drive.{sentOf}
 use borrow.Author.Tests.{eq-eqb, le-ltb, lt-ltb, ne-eqb}
 use Rattle.line.specs.Parity.{levelOf}
 use borrow.Author.Needs.{needs}

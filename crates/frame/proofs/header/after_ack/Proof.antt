@@ -1,4 +1,4 @@
-use Rattle.frame.specs.Step.{afterAck}
+use Rattle.place.specs.Step.{afterAck}
 use borrow.Author.Needs.{needs}
 use Rattle.frame.proofs.header.after_ack.Statement.{statement}
 use Rattle.frame.proofs.header.after_ack.Tie as tie

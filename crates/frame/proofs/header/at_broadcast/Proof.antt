@@ -1,4 +1,4 @@
-use Rattle.frame.specs.Step.{atBroadcast}
+use Rattle.place.specs.Step.{atBroadcast}
 use borrow.Author.Needs.{needs}
 use Rattle.frame.proofs.header.at_broadcast.Statement.{statement}
 use Rattle.frame.proofs.header.at_broadcast.Tie as tie

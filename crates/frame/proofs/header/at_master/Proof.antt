@@ -1,4 +1,4 @@
-use Rattle.frame.specs.Step.{atMaster}
+use Rattle.place.specs.Step.{atMaster}
 use borrow.Author.Tests.{lt-ltb, le-ltb}
 use borrow.Author.Needs.{needs}
 use Rattle.frame.proofs.header.at_master.Statement.{statement}

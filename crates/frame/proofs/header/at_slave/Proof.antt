@@ -1,4 +1,4 @@
-use Rattle.frame.specs.Step.{atSlave}
+use Rattle.place.specs.Step.{atSlave}
 use borrow.Author.Tests.{lt-ltb, eq-eqb, le-ltb, ne-eqb}
 use borrow.Author.Needs.{needs}
 use Rattle.frame.proofs.header.at_slave.Statement.{statement}

@@ -1,4 +1,4 @@
-use Rattle.frame.specs.Step.{controlJudged}
+use Rattle.place.specs.Step.{controlJudged}
 use borrow.Author.Needs.{needs}
 use Rattle.frame.proofs.header.control_judged.Statement.{statement}
 use Rattle.frame.proofs.header.control_judged.Tie as tie

@@ -1,4 +1,4 @@
-use Rattle.frame.specs.Step.{goOn}
+use Rattle.place.specs.Step.{goOn}
 use borrow.Author.Needs.{needs}
 use Rattle.frame.proofs.header.go_on.Statement.{statement}
 use Rattle.frame.proofs.header.go_on.Tie as tie

@@ -1,4 +1,4 @@
-use Rattle.frame.specs.Step.{headerAck}
+use Rattle.place.specs.Step.{headerAck}
 use borrow.Author.Needs.{needs}
 use Rattle.frame.proofs.header.header_ack.Statement.{statement}
 use Rattle.frame.proofs.header.header_ack.Tie as tie

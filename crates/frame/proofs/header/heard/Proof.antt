@@ -1,4 +1,4 @@
-use Rattle.frame.specs.Step.{heardOf}
+use Rattle.place.specs.Step.{heardOf}
 use borrow.Author.Needs.{needs}
 use Rattle.frame.proofs.header.heard.Statement.{statement}
 use Rattle.frame.proofs.header.heard.Tie as tie

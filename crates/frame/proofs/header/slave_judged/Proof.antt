@@ -1,4 +1,4 @@
-use Rattle.frame.specs.Step.{slaveJudged}
+use Rattle.place.specs.Step.{slaveJudged}
 use borrow.Author.Needs.{needs}
 use Rattle.frame.proofs.header.slave_judged.Statement.{statement}
 use Rattle.frame.proofs.header.slave_judged.Tie as tie

@@ -1,4 +1,4 @@
-use Rattle.frame.specs.Step.{withControl}
+use Rattle.place.specs.Step.{withControl}
 use borrow.Author.Needs.{needs}
 use Rattle.frame.proofs.header.with_control.Statement.{statement}
 use Rattle.frame.proofs.header.with_control.Tie as tie

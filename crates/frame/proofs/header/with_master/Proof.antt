@@ -1,4 +1,4 @@
-use Rattle.frame.specs.Step.{masterOf}
+use Rattle.place.specs.Step.{masterOf}
 use borrow.Author.Needs.{needs}
 use Rattle.frame.proofs.header.with_master.Statement.{statement}
 use Rattle.frame.proofs.header.with_master.Tie as tie

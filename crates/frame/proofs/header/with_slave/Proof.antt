@@ -1,4 +1,4 @@
-use Rattle.frame.specs.Step.{withSlave}
+use Rattle.place.specs.Step.{withSlave}
 use borrow.Author.Needs.{needs}
 use Rattle.frame.proofs.header.with_slave.Statement.{statement}
 use Rattle.frame.proofs.header.with_slave.Tie as tie

@@ -1,4 +1,4 @@
-use Rattle.frame.specs.Slaves.{acceptedOf}
+use Rattle.place.specs.Slaves.{acceptedOf}
 use borrow.Author.Needs.{needs}
 use Rattle.frame.proofs.judging.accepted.Statement.{statement}
 use Rattle.frame.proofs.judging.accepted.Tie as tie

@@ -1,4 +1,4 @@
-use Rattle.frame.specs.Slaves.{addressedOf}
+use Rattle.place.specs.Slaves.{addressedOf}
 use borrow.Author.Needs.{needs}
 use Rattle.frame.proofs.judging.addressed.Statement.{statement}
 use Rattle.frame.proofs.judging.addressed.Tie as tie

@@ -3,10 +3,10 @@ use mathlib.Core.Path.{_≡_, refl, sym}
 use Prim.Native.Nat.{ℕ}
 use native.Mathlib.Omega.{arith}
 use lib.ListN.{List·getD-eq-default}
-use Rattle.frame.specs.Slaves.{controls}
-use Rattle.frame.specs.declared.judging.Judged.the-variants.{Nak, Sends}
+use Rattle.place.specs.Slaves.{controls}
+use Rattle.place.specs.declared.control.Judged.the-variants.{Nak, Sends}
 use Rattle.frame.proofs.Values.{of-two, of-pair}
-use Rattle.frame.specs.Slaves.{byValue}
+use Rattle.place.specs.Slaves.{byValue}
 use borrow.Author.Needs.{needs}
 use Rattle.frame.proofs.judging.by_value.Statement.{statement}
 use Rattle.frame.proofs.judging.by_value.Tie as tie

@@ -1,4 +1,4 @@
-use Rattle.frame.specs.Slaves.{controlOf}
+use Rattle.place.specs.Slaves.{controlOf}
 use borrow.Author.Needs.{needs}
 use Rattle.frame.proofs.judging.judge_control.Statement.{statement}
 use Rattle.frame.proofs.judging.judge_control.Tie as tie

@@ -1,4 +1,4 @@
-use Rattle.frame.specs.Slaves.{openTo}
+use Rattle.place.specs.Slaves.{openTo}
 use borrow.Author.Needs.{needs}
 use Rattle.frame.proofs.judging.open_to_all.Statement.{statement}
 use Rattle.frame.proofs.judging.open_to_all.Tie as tie

@@ -1,4 +1,4 @@
-use Rattle.frame.specs.Slaves.{strangerOf}
+use Rattle.place.specs.Slaves.{strangerOf}
 use borrow.Author.Needs.{needs}
 use Rattle.frame.proofs.judging.stranger.Statement.{statement}
 use Rattle.frame.proofs.judging.stranger.Tie as tie

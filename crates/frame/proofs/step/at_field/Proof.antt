@@ -1,4 +1,4 @@
-use Rattle.frame.specs.Step.{atField}
+use Rattle.place.specs.Step.{atField}
 use borrow.Author.Needs.{needs}
 use Rattle.frame.proofs.step.at_field.Statement.{statement}
 use Rattle.frame.proofs.step.at_field.Tie as tie

@@ -1,4 +1,4 @@
-use Rattle.frame.specs.Masters.{clashOf}
+use Rattle.place.specs.Masters.{clashOf}
 use borrow.Author.Needs.{needs}
 use Rattle.frame.proofs.step.clash.Statement.{statement}
 use Rattle.frame.proofs.step.clash.Tie as tie

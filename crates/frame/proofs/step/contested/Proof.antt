@@ -1,4 +1,4 @@
-use Rattle.frame.specs.Masters.{contestedOf}
+use Rattle.place.specs.Masters.{contestedOf}
 use borrow.Author.Needs.{needs}
 use Rattle.frame.proofs.step.contested.Statement.{statement}
 use Rattle.frame.proofs.step.contested.Tie as tie

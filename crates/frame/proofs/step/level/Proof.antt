@@ -1,4 +1,4 @@
-use Rattle.frame.specs.Step.{levelOf}
+use Rattle.place.specs.Step.{levelOf}
 use borrow.Author.Needs.{needs}
 use Rattle.frame.proofs.step.level.Statement.{statement}
 use Rattle.frame.proofs.step.level.Tie as tie

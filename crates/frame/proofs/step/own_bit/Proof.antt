@@ -1,4 +1,4 @@
-use Rattle.frame.specs.Masters.{ownBit}
+use Rattle.place.specs.Masters.{ownBit}
 use borrow.Author.Needs.{needs}
 use Rattle.frame.proofs.step.own_bit.Statement.{statement}
 use Rattle.frame.proofs.step.own_bit.Tie as tie

@@ -1,4 +1,4 @@
-use Rattle.frame.specs.Step.{againOf}
+use Rattle.place.specs.Step.{againOf}
 use borrow.Author.Needs.{needs}
 use Rattle.frame.proofs.text.again.Statement.{statement}
 use Rattle.frame.proofs.text.again.Tie as tie

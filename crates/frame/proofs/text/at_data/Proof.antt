@@ -1,4 +1,4 @@
-use Rattle.frame.specs.Step.{atData}
+use Rattle.place.specs.Step.{atData}
 use borrow.Author.Tests.{lt-ltb, eq-eqb, le-ltb, ne-eqb}
 use borrow.Author.Needs.{needs}
 use Rattle.frame.proofs.text.at_data.Statement.{statement}

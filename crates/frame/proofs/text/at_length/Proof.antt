@@ -1,4 +1,4 @@
-use Rattle.frame.specs.Step.{atLength}
+use Rattle.place.specs.Step.{atLength}
 use borrow.Author.Tests.{lt-ltb, eq-eqb, le-ltb, ne-eqb}
 use borrow.Author.Needs.{needs}
 use Rattle.frame.proofs.text.at_length.Statement.{statement}

@@ -1,4 +1,4 @@
-use Rattle.frame.specs.Step.{countedOf}
+use Rattle.place.specs.Step.{countedOf}
 use borrow.Author.Needs.{needs}
 use Rattle.frame.proofs.text.counted.Statement.{statement}
 use Rattle.frame.proofs.text.counted.Tie as tie

@@ -1,4 +1,4 @@
-use Rattle.frame.specs.Step.{dataAcked}
+use Rattle.place.specs.Step.{dataAcked}
 use borrow.Author.Needs.{needs}
 use Rattle.frame.proofs.text.data_acked.Statement.{statement}
 use Rattle.frame.proofs.text.data_acked.Tie as tie

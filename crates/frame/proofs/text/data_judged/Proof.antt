@@ -1,4 +1,4 @@
-use Rattle.frame.specs.Step.{dataJudged}
+use Rattle.place.specs.Step.{dataJudged}
 use borrow.Author.Needs.{needs}
 use Rattle.frame.proofs.text.data_judged.Statement.{statement}
 use Rattle.frame.proofs.text.data_judged.Tie as tie

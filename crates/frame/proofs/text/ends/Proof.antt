@@ -1,4 +1,4 @@
-use Rattle.frame.specs.Step.{endsOf}
+use Rattle.place.specs.Step.{endsOf}
 use borrow.Author.Needs.{needs}
 use Rattle.frame.proofs.text.ends.Statement.{statement}
 use Rattle.frame.proofs.text.ends.Tie as tie

@@ -1,4 +1,4 @@
-use Rattle.frame.specs.Step.{lastOf}
+use Rattle.place.specs.Step.{lastOf}
 use borrow.Author.Needs.{needs}
 use Rattle.frame.proofs.text.last.Statement.{statement}
 use Rattle.frame.proofs.text.last.Tie as tie

@@ -1,4 +1,4 @@
-use Rattle.frame.specs.Step.{lengthJudged}
+use Rattle.place.specs.Step.{lengthJudged}
 use borrow.Author.Needs.{needs}
 use Rattle.frame.proofs.text.length_judged.Statement.{statement}
 use Rattle.frame.proofs.text.length_judged.Tie as tie

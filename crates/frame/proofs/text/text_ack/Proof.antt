@@ -1,4 +1,4 @@
-use Rattle.frame.specs.Step.{textAck}
+use Rattle.place.specs.Step.{textAck}
 use borrow.Author.Needs.{needs}
 use Rattle.frame.proofs.text.text_ack.Statement.{statement}
 use Rattle.frame.proofs.text.text_ack.Tie as tie

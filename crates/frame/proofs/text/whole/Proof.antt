@@ -1,4 +1,4 @@
-use Rattle.frame.specs.Step.{wholeOf}
+use Rattle.place.specs.Step.{wholeOf}
 use borrow.Author.Needs.{needs}
 use Rattle.frame.proofs.text.whole.Statement.{statement}
 use Rattle.frame.proofs.text.whole.Tie as tie

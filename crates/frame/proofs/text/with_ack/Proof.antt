@@ -1,4 +1,4 @@
-use Rattle.frame.specs.Step.{withAck}
+use Rattle.place.specs.Step.{withAck}
 use borrow.Author.Needs.{needs}
 use Rattle.frame.proofs.text.with_ack.Statement.{statement}
 use Rattle.frame.proofs.text.with_ack.Tie as tie

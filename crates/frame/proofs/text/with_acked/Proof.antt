@@ -1,4 +1,4 @@
-use Rattle.frame.specs.Step.{ackedOf}
+use Rattle.place.specs.Step.{ackedOf}
 use borrow.Author.Needs.{needs}
 use Rattle.frame.proofs.text.with_acked.Statement.{statement}
 use Rattle.frame.proofs.text.with_acked.Tie as tie

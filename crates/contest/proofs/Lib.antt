@@ -1,0 +1,1 @@
+-- What follows from the definitions of the contest, for the library above.

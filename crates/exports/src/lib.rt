@@ -1,0 +1,61 @@
+// What a host in C calls, and nothing else: each function hands on to a library below, whose contract it keeps. No
+// function has a `requires`, and nothing is assumed.
+ghost use Rattle.contest.specs.Contest.{ContestedWord, WonByWord, contendersOf};
+ghost use Rattle.list_run.specs.Bytes.{CalledBytes};
+ghost use Rattle.lasting.specs.Calls.{Ran, Reset};
+use contest::contenders::Contender;
+use contest::contenders::Contenders;
+use list_run::bytes::run_bytes;
+use records::gathered;
+use unit::step::Unit;
+
+// A verdict as one number: the refusal's number in the upper half, the place in the lower.
+const WORD_HALF: u32 = 65536;
+
+// The core's contest with its verdict as one number.
+fn contest_word(all: Contenders, lost: &mut [u32]) -> u32
+    ensures whole { λ r. ⌜ ContestedWord (contendersOf all) (now (lost .entry)) r (now (lost .exit)) ⌝ }
+    ensures least { λ r. ⌜ WonByWord (contendersOf all) r ⌝ }
+{
+    let outcome = all.contest(lost);
+    let verdict = outcome.verdict();
+    let number = verdict.number;
+    let place = verdict.place;
+    (number as u32) * WORD_HALF + place as u32
+}
+
+// The winner's place, or the refusal's number times 65536 and the place that it names.
+#[no_mangle]
+pub extern "C" fn iebus_contest(records: &[Contender], lost: &mut [u32]) -> u32
+    ensures whole { λ r. ⌜ ContestedWord (now (records .entry)) (now (lost .entry)) r (now (lost .exit)) ⌝ }
+    ensures least { λ r. ⌜ WonByWord (now (records .entry)) r ⌝ }
+{
+    contest_word(gathered(records), lost)
+}
+
+// "The same run from a reset unit is exported to the bench host, written in C, over byte slices, each word
+// little-endian; it returns 0 or a refusal."
+#[no_mangle]
+pub extern "C" fn iebus_run(words: &[u8], answers: &mut [u8]) -> u32
+    ensures { λ r. ⌜ CalledBytes (now (words .entry)) (now (answers .entry)) r (now (answers .exit)) ⌝ }
+{
+    let ran = run_bytes(Unit::reset(), words, answers);
+    ran.number
+}
+
+// A reset unit in `state`: 0, or 100 where `state` has not the size of a state; then nothing is written.
+#[no_mangle]
+pub extern "C" fn iebus_unit_reset(state: &mut [u8]) -> u32
+    ensures { λ r. ⌜ Reset (now (state .entry)) r (now (state .exit)) ⌝ }
+{
+    lasting::calls::reset(state)
+}
+
+// The words run from the unit that `state` keeps, which then keeps the unit that is left: 0, 11, 12 or 100.
+#[no_mangle]
+pub extern "C" fn iebus_unit_run(state: &mut [u8], words: &[u8], answers: &mut [u8]) -> u32
+    ensures { λ r. ⌜ Ran (now (state .entry)) (now (words .entry)) (now (answers .entry)) r (now (state .exit))
+        (now (answers .exit)) ⌝ }
+{
+    lasting::calls::run(state, words, answers)
+}

@@ -1,0 +1,2 @@
+-- A law over the definitions of a frame.
+pub mod Direction

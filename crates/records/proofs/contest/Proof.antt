@@ -1,0 +1,33 @@
+-- `contest`: the walk of Passing.antt to the core's contest.
+use contract.Running.{givenOf, tables, tablesOf}
+use denote.Enum.Laws as EL
+use Rattle.contest.specs.Contest.{Contested, WonRightly}
+use Rattle.contest.proofs.contenders.Outcome as O
+use Rattle.contest.proofs.contenders.Outcome.Laws as O′
+use Rattle.records.proofs.Lists.{contest-listed, winner-listed}
+use denote.Triple.Spec.{tripleOf}
+use denote.Triple.Table.{entered, cited}
+use Rattle.contest.proofs.contenders.Contenders.contest.Symbol as core-def
+use Rattle.contest.proofs.contenders.Contenders.contest.Met as core-thm
+use Rattle.records.proofs.gathered.Symbol as gathered-def
+use Rattle.records.proofs.gathered.Met as gathered-thm
+use Rattle.records.proofs.Passing.{Gathered, Core, meets}
+use Rattle.records.proofs.contest.Key.{name as #contest}
+use Rattle.records.proofs.contest as f
+use Rattle.records.proofs.contest.Statement as stated
+use Rattle.records.proofs.contest.Code as code
+
+pub contest-spec : {M : Type 1} → stated.statement M
+unfolding code.routine tablesOf
+contest-spec 𝓤 H 𝓜 𝓖 𝓡 =
+    let W = givenOf 𝓤 H 𝓜 𝓖 in
+    entered 𝓤 H (tripleOf 𝓤 H (𝓖 .A) f.signature (f.spec 𝓤 H (𝓖 .A) (𝓜 .mem) (𝓡 .run)))
+    (tables 𝓤 H 𝓜 𝓡 code.env .C) (tables 𝓤 H 𝓜 𝓡 code.env .Λ) #contest code.function (code.unfolded 𝓤 H 𝓜 𝓡)
+    (meets O.the-row Contested WonRightly 𝓤 H (𝓖 .A) W (𝓜 .mem) (𝓡 .run) O′.mir
+    (λ r w is. EL.lawful O.the-type O′.the-laws 𝓤 H (𝓖 .A) W tt .typed r _ is .0)
+    (λ cs l r l′ c won. (contest-listed cs c, winner-listed cs c won))
+    (tablesOf 𝓤 H 𝓜 (tables 𝓤 H 𝓜 𝓡 code.env)) core-def.name
+    (cited 𝓤 H (Gathered 𝓤 H (𝓖 .A) (𝓜 .mem) (𝓡 .run)) 𝓜 𝓡 code.env gathered-def.name gathered-def.routine
+    code.calls-records·gathered (gathered-thm.met 𝓤 H 𝓜 𝓖 𝓡))
+    (cited 𝓤 H (Core O.the-row Contested WonRightly 𝓤 H (𝓖 .A)) 𝓜 𝓡 code.env core-def.name core-def.routine
+    code.calls-contest·contenders·Contenders·contest (core-thm.met 𝓤 H 𝓜 𝓖 𝓡)))

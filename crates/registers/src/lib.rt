@@ -1,0 +1,329 @@
+// What the host's words do to the registers, and what is refused: the lowest number first, 0 where nothing is.
+ghost use mathlib.Core.Bool.{true};
+ghost use mathlib.Core.Path.{_≡_};
+ghost use Prim.Native.Nat.{_+_, _*_};
+ghost use lib.Dec.{eqb};
+ghost use Rattle.line.specs.Choice.{bitOf, pick};
+ghost use Rattle.line.specs.Numbers.{ctrSetSlre};
+ghost use Rattle.rules.specs.Registers.{cmrRefusal, commanded, ctrRefusal, flgByte, lorCopied, mcrListed};
+ghost use Rattle.rules.specs.Registers.{mcrWritten, rcrByte, readRefusal, readValue, requestRefusal, requested};
+ghost use Rattle.rules.specs.Registers.{strByte, tbfRefusal, uar1Written, uarRefusal, writeRefusal, written};
+ghost use Rattle.rules.specs.Set.{registers·lor1, registers·lor2, registers·own, registers·slave};
+ghost use Rattle.rules.specs.Set.{registers·slre, registers·strq};
+use line::numbers::CMR_CLEAR_SLRE;
+use line::numbers::CMR_COPY_LOCK;
+use line::numbers::CMR_OFFER;
+use line::numbers::CMR_REQUEST;
+use line::numbers::CTR_NOTHING;
+use line::numbers::CTR_RESET;
+use line::numbers::CTR_SET_SLRE;
+use line::numbers::RBF_BYTES;
+use line::numbers::REFUSED_EMPTY;
+use line::numbers::REFUSED_FULL;
+use line::numbers::REFUSED_OUT_OF_TURN;
+use line::numbers::REFUSED_REGISTER;
+use line::numbers::REFUSED_TOO_FEW;
+use line::numbers::REFUSED_UNABLE;
+use line::numbers::REFUSED_VALUE;
+use line::numbers::REG_CMR;
+use line::numbers::REG_CTR;
+use line::numbers::REG_FLG;
+use line::numbers::REG_LOR1;
+use line::numbers::REG_LOR2;
+use line::numbers::REG_MCR;
+use line::numbers::REG_RBF;
+use line::numbers::REG_RCR;
+use line::numbers::REG_RDR1;
+use line::numbers::REG_RDR2;
+use line::numbers::REG_SAR1;
+use line::numbers::REG_SAR2;
+use line::numbers::REG_STR;
+use line::numbers::REG_TBF;
+use line::numbers::REG_UAR1;
+use line::numbers::REG_UAR2;
+use line::numbers::TBF_BYTES;
+use place::writes;
+use rules::state::Registers;
+
+// "CTR (00H nothing, 08H reset, 10H set SLRE)".
+fn ctr_refusal(v: u8) -> u8
+    ensures { λ r. ⌜ r ≡ ctrRefusal v ⌝ }
+{
+    if (v == CTR_NOTHING) | (v == CTR_RESET) | (v == CTR_SET_SLRE) {
+        return 0;
+    }
+    REFUSED_VALUE
+}
+
+// "CMR (08H master request, 0BH offer slave data, 0FH clear SLRE, .. 40H copy the lock into LOR ..)".
+fn cmr_refusal(regs: Registers, waiting: usize, v: u8) -> u8
+    ensures { λ r. ⌜ r ≡ cmrRefusal regs waiting v ⌝ }
+{
+    let request = v == CMR_REQUEST;
+    let offer = v == CMR_OFFER;
+    if !(request | offer | (v == CMR_CLEAR_SLRE) | (v == CMR_COPY_LOCK)) {
+        return REFUSED_VALUE;
+    }
+    if (request | offer) & (regs.marq | regs.strq) {
+        return REFUSED_OUT_OF_TURN;
+    }
+    if ((request & writes(regs.control)) | offer) & (waiting < 2) {
+        return REFUSED_TOO_FEW;
+    }
+    if (request & regs.bit & (regs.slave == regs.own)) | (offer & !regs.enabled) {
+        return REFUSED_UNABLE;
+    }
+    0
+}
+
+// "UAR with MARQ, STRQ, SLRE or locked".
+fn uar_refusal(regs: Registers, listed: bool) -> u8
+    ensures { λ r. ⌜ r ≡ uarRefusal regs listed ⌝ }
+{
+    if !listed {
+        return REFUSED_VALUE;
+    }
+    if regs.marq | regs.strq | regs.slre | regs.locked {
+        return REFUSED_OUT_OF_TURN;
+    }
+    0
+}
+
+// SAR and MCR with MARQ.
+fn request_refusal(regs: Registers, listed: bool) -> u8
+    ensures { λ r. ⌜ r ≡ requestRefusal regs listed ⌝ }
+{
+    if !listed {
+        return REFUSED_VALUE;
+    }
+    if regs.marq {
+        return REFUSED_OUT_OF_TURN;
+    }
+    0
+}
+
+// Neither "MCR control undefined" nor "MCR broadcast with a read control".
+fn mcr_listed(v: u8) -> bool
+    ensures { λ r. ⌜ r ≡ mcrListed v ⌝ }
+{
+    let control = v % 16;
+    writes(control) | ((0x80 <= v) & ((control == 0) | ((3 <= control) & (control <= 7))))
+}
+
+// "TBF write at 33 bytes".
+fn tbf_refusal(waiting: usize) -> u8
+    ensures { λ r. ⌜ r ≡ tbfRefusal waiting ⌝ }
+{
+    if TBF_BYTES <= waiting {
+        return REFUSED_FULL;
+    }
+    0
+}
+
+// "Written: 0H CTR .. 1H CMR .. 2H UAR1 .. 3H UAR2 .. 4H SAR1 .. 5H SAR2. 6H MCR .. EH TBF".
+pub fn write_refusal(regs: Registers, waiting: usize, register: u8, v: u8) -> u8
+    ensures { λ r. ⌜ r ≡ writeRefusal regs waiting register v ⌝ }
+{
+    match register {
+        REG_CTR => ctr_refusal(v),
+        REG_CMR => cmr_refusal(regs, waiting, v),
+        REG_UAR1 => uar_refusal(regs, v / 4 % 4 == 0),
+        REG_UAR2 => uar_refusal(regs, true),
+        REG_SAR1 => request_refusal(regs, v % 16 == 0),
+        REG_SAR2 => request_refusal(regs, true),
+        REG_MCR => request_refusal(regs, mcr_listed(v)),
+        REG_TBF => tbf_refusal(waiting),
+        _ => REFUSED_REGISTER,
+    }
+}
+
+fn with_lor(mut regs: Registers, lor1: u8, lor2: u8) -> Registers
+    ensures { λ r. ⌜ r ≡ registers·lor2 lor2 (registers·lor1 lor1 regs) ⌝ }
+{
+    regs.lor1 = lor1;
+    regs.lor2 = lor2;
+    regs
+}
+
+// "Copy the lock into LOR, zeros if unlocked"; "LOR1 (low 8), LOR2 (high half 0001 if locked; low half address high
+// 4)".
+fn lor_copied(regs: Registers) -> Registers
+    ensures { λ r. ⌜ r ≡ lorCopied regs ⌝ }
+{
+    if regs.locked {
+        let low = (regs.holder % 256) as u8;
+        let high = (regs.holder / 256 % 16) as u8;
+        return with_lor(regs, low, 16 + high);
+    }
+    with_lor(regs, 0, 0)
+}
+
+// A master request: "RDR1 is 0 at a master request"; losses are counted afresh.
+fn request_made(mut regs: Registers) -> Registers
+    ensures { λ r. ⌜ r ≡ requested regs ⌝ }
+{
+    regs.marq = true;
+    regs.losses = 0;
+    regs.rdr1 = 0;
+    regs
+}
+
+fn with_strq(mut regs: Registers) -> Registers
+    ensures { λ r. ⌜ r ≡ registers·strq true regs ⌝ }
+{
+    regs.strq = true;
+    regs
+}
+
+fn with_slre(mut regs: Registers, set: bool) -> Registers
+    ensures { λ r. ⌜ r ≡ registers·slre set regs ⌝ }
+{
+    regs.slre = set;
+    regs
+}
+
+// A command of CMR that is accepted.
+fn command(regs: Registers, v: u8) -> Registers
+    ensures { λ r. ⌜ r ≡ commanded regs v ⌝ }
+{
+    if v == CMR_REQUEST {
+        return request_made(regs);
+    }
+    if v == CMR_OFFER {
+        return with_strq(regs);
+    }
+    if v == CMR_CLEAR_SLRE {
+        return with_slre(regs, false);
+    }
+    lor_copied(regs)
+}
+
+fn with_own(mut regs: Registers, own: u16) -> Registers
+    ensures { λ r. ⌜ r ≡ registers·own own regs ⌝ }
+{
+    regs.own = own;
+    regs
+}
+
+fn with_slave(mut regs: Registers, slave: u16) -> Registers
+    ensures { λ r. ⌜ r ≡ registers·slave slave regs ⌝ }
+{
+    regs.slave = slave;
+    regs
+}
+
+// "UAR1 (own address low 4 bits, then 0, 0, sending enabled, mode)".
+fn uar1_written(mut regs: Registers, v: u8) -> Registers
+    ensures { λ r. ⌜ r ≡ uar1Written regs v ⌝ }
+{
+    let own = regs.own / 16 * 16 + (v / 16) as u16;
+    let enabled = v / 2 % 2 == 1;
+    let long = v % 2 == 1;
+    regs.own = own;
+    regs.enabled = enabled;
+    regs.long = long;
+    regs
+}
+
+// "MCR (broadcast bit as on the wire, retries 0 to 7, control)".
+fn mcr_written(mut regs: Registers, v: u8) -> Registers
+    ensures { λ r. ⌜ r ≡ mcrWritten regs v ⌝ }
+{
+    let bit = 0x80 <= v;
+    let retries = v / 16 % 8;
+    let control = v % 16;
+    regs.bit = bit;
+    regs.retries = retries;
+    regs.control = control;
+    regs
+}
+
+fn ctr_written(regs: Registers, v: u8) -> Registers
+    ensures { λ r. ⌜ r ≡ pick (eqb v ctrSetSlre) (registers·slre true regs) regs ⌝ }
+{
+    if v == CTR_SET_SLRE {
+        return with_slre(regs, true);
+    }
+    regs
+}
+
+// The registers after an accepted write but a reset's and TBF's.
+pub fn write(regs: Registers, register: u8, v: u8) -> Registers
+    ensures { λ r. ⌜ r ≡ written regs register v ⌝ }
+{
+    let half = (v / 16) as u16;
+    let byte = v as u16;
+    match register {
+        REG_CTR => ctr_written(regs, v),
+        REG_CMR => command(regs, v),
+        REG_UAR1 => uar1_written(regs, v),
+        REG_UAR2 => with_own(regs, byte * 16 + regs.own % 16),
+        REG_SAR1 => with_slave(regs, regs.slave / 16 * 16 + half),
+        REG_SAR2 => with_slave(regs, byte * 16 + regs.slave % 16),
+        _ => mcr_written(regs, v),
+    }
+}
+
+// "Read: 0H STR .. 1H FLG .. 2H RDR1, 3H RDR2. 4H LOR1 .. 5H LOR2 .. 8H RCR .. EH RBF"; "RBF read when empty".
+pub fn read_refusal(register: u8, clear: bool) -> u8
+    ensures { λ r. ⌜ r ≡ readRefusal register clear ⌝ }
+{
+    if (register <= REG_LOR2) | (register == REG_RCR) {
+        return 0;
+    }
+    if register == REG_RBF {
+        if clear {
+            return REFUSED_EMPTY;
+        }
+        return 0;
+    }
+    REFUSED_REGISTER
+}
+
+// Four flags in bits 7-4.
+fn four_flags(a: bool, b: bool, c: bool, d: bool) -> u8
+    ensures { λ r. ⌜ r ≡ bitOf a * 128 + bitOf b * 64 + bitOf c * 32 + bitOf d * 16 ⌝ }
+{
+    a as u8 * 128 + b as u8 * 64 + c as u8 * 32 + d as u8 * 16
+}
+
+// "STR (TFL, TEP, RFL, REP in bits 7-4)".
+fn str_byte(waiting: usize, stored: usize) -> u8
+    ensures { λ r. ⌜ r ≡ strByte waiting stored ⌝ }
+{
+    four_flags(
+        TBF_BYTES <= waiting,
+        waiting == 0,
+        RBF_BYTES <= stored,
+        stored == 0,
+    )
+}
+
+// "FLG (MARQ, STRQ, SLRE in bits 6-4)".
+fn flg_byte(regs: Registers) -> u8
+    ensures { λ r. ⌜ r ≡ flgByte regs ⌝ }
+{
+    regs.marq as u8 * 64 + regs.strq as u8 * 32 + regs.slre as u8 * 16
+}
+
+// "RCR (MARC high, SLRC low)".
+fn rcr_byte(regs: Registers) -> u8
+    ensures { λ r. ⌜ r ≡ rcrByte regs ⌝ }
+{
+    regs.marc % 16 * 16 + regs.slrc % 16
+}
+
+// A register but RBF, from the registers and the number of bytes in each buffer.
+pub fn read_value(regs: Registers, waiting: usize, stored: usize, register: u8) -> u8
+    ensures { λ r. ⌜ r ≡ readValue regs waiting stored register ⌝ }
+{
+    match register {
+        REG_STR => str_byte(waiting, stored),
+        REG_FLG => flg_byte(regs),
+        REG_RDR1 => regs.rdr1,
+        REG_RDR2 => regs.rdr2,
+        REG_LOR1 => regs.lor1,
+        REG_LOR2 => regs.lor2,
+        _ => rcr_byte(regs),
+    }
+}
