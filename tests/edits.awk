@@ -1,12 +1,13 @@
 # Judges the first lines of the edits, and the logs of their checks, for tests/edits. Each line that it reads has a
 # kind, and then for `phrase` a kind of edit and a phrase, else a crate and what it has: a public function, a
-# declaration, an edit with its first line, a file that an edit changes.
+# declaration, an edit with its first line, a file that an edit changes, why an edit cannot be made.
 
 $1 == "phrase" { phrases[++phrase_count] = $3; phrase_kind[phrase_count] = $2 }
 $1 == "function" { functions[++function_count] = $3; function_crate[function_count] = $2 }
 $1 == "private" { private[$2, $3] = 1 }
 $1 == "declaration" { declared[$2, $3] = 1 }
 $1 == "file" { files[$2 "/" $3] = files[$2 "/" $3] " " $4 }
+$1 == "bad" { bad[$2 "/" $3] = $4 }
 $1 == "edit" { read_edit($2, $3, $4) }
 
 # One of the two forms, taken apart: a kind, what stands behind it, and the sentence. No kind: it has neither form.
@@ -65,7 +66,8 @@ function wrong_rule(e) {
 }
 
 function judge_edit(e,    why) {
-    if (kinds[e] == "") why = "its first line has none of the forms"
+    if (edits[e] in bad) why = bad[edits[e]]
+    else if (kinds[e] == "") why = "its first line has none of the forms"
     else if (files[edits[e]] ~ / proofs\//) why = "it changes a proof"
     else if (kinds[e] == "code") why = wrong_code(e)
     else why = wrong_rule(e)
