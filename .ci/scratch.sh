@@ -1,6 +1,8 @@
 # Where the checks work. Each copies every module of the libraries below it into TMPDIR, up to 230 MB in thousands of
 # files, and removes them; on a disk that takes seconds, in memory next to nothing. Needs rt.sh.
 memory=/dev/shm
+# our folder there, once it is made: what is removed at the end is nothing that the environment names
+scratch=''
 # what a check may need there, in KiB, with as much again for what grows
 memory_each=$((512 * 1024))
 
