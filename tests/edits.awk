@@ -132,27 +132,35 @@ function judge_logs(    e, why) {
     }
 }
 
-# an item of the list, in lines under 120 characters
-function item(text,    words, count, i, line) {
+# A row of the table, in lines under 120 characters: what does not fit goes on in a row without a name.
+function row(name, text, by,    words, count, i, line, end) {
     count = split(text, words, " ")
-    line = "-"
+    line = "| " name " |"
+    end = " | " by " |"
     for (i = 1; i <= count; i++) {
-        if (length(line) + 1 + length(words[i]) > 118) { print line; line = " " }
+        if (length(line) + 1 + length(words[i]) + length(end) > 119) {
+            print line end
+            line = "| |"
+            end = " | |"
+        }
         line = line " " words[i]
     }
-    print line
+    print line end
 }
 
-function list(    e, what) {
+function table(    e) {
     for (e = 1; e <= edit_count; e++) {
-        if (e == 1 || crates[e] != crates[e - 1]) print (e == 1 ? "" : "\n") "In `" crates[e] "`:\n"
-        what = kinds[e] == "code" ? "code of `" : kinds[e] ", refused by `"
-        item("`" labels[e] "`, " (kinds[e] == "" ? "not said" : what named[e] "`: " sentences[e]))
+        if (e == 1 || crates[e] != crates[e - 1])
+            print (e == 1 ? "" : "\n") "Of `" crates[e] "`:\n\n| Edit | Stands for | Refused by |\n|---|---|---|"
+        gsub(/[|]/, "\\|", sentences[e])
+        if (kinds[e] == "") row("`" labels[e] "`", "not said", "")
+        else if (kinds[e] == "code") row("`" labels[e] "`", "code of `" named[e] "`: " sentences[e], "a proof")
+        else row("`" labels[e] "`", kinds[e] ": " sentences[e], "`" named[e] "`")
     }
 }
 
 END {
     if (task == "lines") judge_lines()
     else if (task == "logs") judge_logs()
-    else list()
+    else table()
 }
