@@ -60,6 +60,8 @@ function quoted(e,    i, count) {
 # what is wrong with an edit of a definition or a statement
 function wrong_rule(e) {
     if (!((crates[e], named[e]) in declared)) return crates[e] " declares no " named[e]
+    # a claim may also be made in the contract of a function, which stands in src/
+    if (kinds[e] != "claim" && files[edits[e]] !~ / specs\//) return "it changes no definition"
     if (kinds[e] ~ /^(misreading|dead unit)$/ && !quoted(e))
         return "it has no phrase of document 01 for a " kinds[e] ", in quotation marks"
     return ""
