@@ -1,4 +1,4 @@
-# Counting for the gate: `suite` runs one suite of tests and adds up what its last line says.
+# Counting for the gate: `suite` runs one suite of tests, under a heading, and adds up what its last line says.
 passed=0
 failed=0
 
@@ -7,6 +7,7 @@ failed=0
 suite() {
     suite_name=$1
     shift
+    echo "-- $suite_name"
     suite_log=$(mktemp) || exit 2
     { "$@"; echo $? >"$suite_log.status"; } 2>&1 | tee "$suite_log"
     suite_counts=$(tail -n 1 "$suite_log" | sed -n 's/^\([0-9][0-9]*\) passed, \([0-9][0-9]*\) failed$/\1 \2/p')
@@ -32,6 +33,7 @@ suite() {
 one() {
     one_name=$1
     shift
+    echo "-- $one_name"
     if "$@"; then
         passed=$((passed + 1))
     else
