@@ -19,8 +19,7 @@
        iebus_unit_run(state, sizeof state, in, sizeof in, out, sizeof out);
        drive = IEBUS_DRIVE(iebus_get_word(out));
 
-   A whole host is in host/. The contracts are in crates/lasting/src/calls.rt, crates/list_run/src/bytes.rt and
-   crates/line/src/records.rt. */
+   A whole host is in host/. The contracts are in crates/exports/src/lib.rt. */
 #ifndef IEBUS_H
 #define IEBUS_H
 
