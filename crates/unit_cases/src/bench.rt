@@ -1,18 +1,21 @@
-// A unit on a bench: the host that writes and reads its registers, and the line that it shares with another party.
-ghost use Prim.Native.Nat.{_≤_};
+// A unit on a bench: the host that writes and reads its registers, the line that it shares with another party, and
+// the text that says what both do and what is to come of it, read character by character.
+use crate::print::decimal;
+use crate::print::hex_byte;
+use crate::print::hex_word;
+use crate::print::text;
 use line::numbers::DRIVE_RELEASED;
 use line::numbers::KIND_READ;
 use line::numbers::KIND_REFUSED;
 use line::numbers::KIND_VALUE;
 use line::numbers::KIND_WRITE;
-use line::numbers::REG_RBF;
 use line::numbers::SLOT_HIGH;
 use line::numbers::SLOT_IDLE;
 use line::numbers::SLOT_LOW;
 use line::numbers::SLOT_START;
 use std::num::wrapping_add_u64;
-use unit::answer::answer_word;
-use unit::step::Unit;
+use std::num::wrapping_add_usize;
+use std::num::wrapping_sub_u32;
 
 // A sum over answers that tells their order too: each time the sum is multiplied and the answer added, modulo the
 // largest prime below 2^32.
@@ -20,190 +23,307 @@ const PRIME: u64 = 4_294_967_291;
 
 const FACTOR: u64 = 65_599;
 
-// The weight of the highest bit of a field: 12 bits, 4 and 8.
-pub const ADDRESS: u32 = 0x800;
+// The kind of a word is in its top four bits, a register's number in the next four.
+const KIND: u32 = 0x1000_0000;
 
-pub const CONTROL: u32 = 0x8;
+const REGISTER: u32 = 0x0100_0000;
 
-pub const BYTE: u32 = 0x80;
+// A read of RBF.
+const RBF_READ: u32 = 0x2E00_0000;
 
 pub struct Bench {
-    pub unit: Unit,
-    // What the unit drives: bits 9-8 of its latest answer that is no refusal.
-    pub drive: u32,
-    pub answer: u32,
-    // What the line settled to in the latest slot.
-    pub line: u32,
-    // The levels of the latest field, highest bit first and P last.
-    pub heard: u32,
-    // All answers since it was last made 0.
-    pub sum: u64,
+    // Where in the text the next character stands.
+    pub at: usize,
+    // What that character belongs to: an operation (a blank), or what began with the character that is kept here.
+    part: u8,
+    // Figures that an operation still awaits, and the number that those before them made.
+    figures: u32,
+    number: u32,
+    // The latest word, and whether it is still to go to the unit.
+    pub word: u32,
+    pub due: bool,
+    // The latest answer, and what the unit drives: bits 9-8 of the latest one that is no refusal.
+    answer: u32,
+    drive: u32,
     pub words: u64,
-    pub refused: u64,
-    // Levels and values other than those that were worked out from document 01, which the callers name.
-    pub wrong: u64,
-    pub frames: u64,
+    frames: u64,
+    refused: u64,
+    // Levels and values other than those that the text awaits.
+    wrong: u64,
     // Bytes that the host read from RBF.
-    pub stored: u64,
-    // Bytes of the unit's that another party ACKed.
-    pub sent: u64,
+    stored: u64,
+    // What the text has counted, and how much was wrong when it last did.
+    counted: u64,
+    wrong_before: u64,
+    // A group of the text: where it begins, how often it is to be run, and how often it was.
+    from: usize,
+    turns: u64,
+    turned: u64,
+    // The sum of all answers in this turn, in the first one and in the latest, and how many turns had the first's.
+    sum: u64,
+    first: u64,
+    last: u64,
+    alike: u64,
 }
 
-fn more(count: u64) -> u64 {
-    wrapping_add_u64(count, 1)
-}
-
-fn folded(sum: u64, answer: u32) -> u64 {
-    (sum % PRIME * FACTOR + answer as u64) % PRIME
-}
-
-// The line settles to the wired AND of what its two parties drive; start is driven over either level.
-fn settled(other: u32, unit: u32) -> u32 {
-    if (other == SLOT_START) | (unit == SLOT_START) {
-        return SLOT_START;
+// The value of a hexadecimal figure, 16 for what is none.
+fn value_of(figure: u8) -> u32 {
+    match figure {
+        b'0'..=b'9' => (figure - b'0') as u32,
+        b'A'..=b'F' => (figure - b'A') as u32 + 10,
+        _ => 16,
     }
-    if (other == SLOT_LOW) | (unit == SLOT_LOW) {
-        return SLOT_LOW;
+}
+
+// How many figures follow an operation.
+fn figures_of(operation: u8) -> u32 {
+    match operation {
+        b'r' => 1,
+        b'w' => 3,
+        b'(' => 4,
+        _ => 2,
     }
-    SLOT_HIGH
-}
-
-// "P makes the number of ones in the field and P even."
-pub fn parity(value: u32) -> u32
-    ensures { λ r. ⌜ r ≤ 1 ⌝ }
-{
-    u32::count_ones(value) % 2
-}
-
-// A field's levels with its P behind them.
-pub fn with_p(value: u32) -> u32 {
-    value % 0x1_0000 * 2 + parity(value)
 }
 
 impl Bench {
-    // A unit after a reset, which drives nothing.
-    pub fn reset() -> Bench {
-        let unit = Unit::reset();
+    // A bench with a unit after a reset, which drives nothing, at a place of the text.
+    pub fn fresh(at: usize) -> Bench {
         Bench {
-            unit,
-            drive: DRIVE_RELEASED as u32,
+            at,
+            part: b' ',
+            figures: 0,
+            number: 0,
+            word: 0,
+            due: false,
             answer: 0,
-            line: SLOT_HIGH,
-            heard: 0,
-            sum: 0,
+            drive: DRIVE_RELEASED as u32,
             words: 0,
+            frames: 0,
             refused: 0,
             wrong: 0,
-            frames: 0,
             stored: 0,
-            sent: 0,
+            counted: 0,
+            wrong_before: 0,
+            from: at,
+            turns: 0,
+            turned: 0,
+            sum: 0,
+            first: 0,
+            last: 0,
+            alike: 0,
         }
     }
 
-    fn word(mut self, word: u32) -> Bench {
-        let unit = self.unit;
-        let stepped = unit.step(word);
-        let next = stepped.unit;
-        let given = stepped.answer;
-        let answer = answer_word(given);
-        self.unit = next;
-        self.answer = answer;
-        self.sum = folded(self.sum, answer);
-        self.words = more(self.words);
-        if answer / 0x1000_0000 == KIND_REFUSED {
-            self.refused = more(self.refused);
-            return self;
+    pub fn reads(mut self, character: u8) -> Bench {
+        self.at = wrapping_add_usize(self.at, 1);
+        self.due = false;
+        let part = self.part;
+        match part {
+            b' ' => self.operation(character),
+            b'"' | b'$' => self.prints(character),
+            b'#' => {
+                if character == b'\n' {
+                    self.part = b' ';
+                }
+                self
+            }
+            _ => self.figure(character),
         }
-        self.drive = answer / 256 % 4;
-        self
+    }
+
+    fn operation(mut self, character: u8) -> Bench {
+        match character {
+            b' ' | b'\n' => self,
+            b'0' => self.slot(SLOT_LOW, SLOT_LOW),
+            b'1' | b'l' => self.slot(SLOT_HIGH, SLOT_HIGH),
+            b'o' => self.slot(SLOT_HIGH, SLOT_LOW),
+            b'S' => self.slot(SLOT_START, SLOT_START),
+            b's' => self.slot(SLOT_HIGH, SLOT_START),
+            b'I' => self.idle(),
+            b'#' | b'"' => {
+                self.part = character;
+                self
+            }
+            b'w' | b'r' | b'=' | b'x' | b'(' => {
+                self.part = character;
+                self.figures = figures_of(character);
+                self.number = 0;
+                self
+            }
+            b')' => self.turns_over(),
+            b'+' => self.counts(),
+            b'R' => Bench::fresh(self.at),
+            _ => self.holds(false),
+        }
     }
 
     fn holds(mut self, right: bool) -> Bench {
         if right {
             return self;
         }
-        self.wrong = more(self.wrong);
+        self.wrong = wrapping_add_u64(self.wrong, 1);
         self
     }
 
-    pub fn writes(self, register: u8, value: u8) -> Bench {
-        self.word(KIND_WRITE * 0x1000_0000 + register as u32 % 16 * 0x0100_0000 + value as u32)
-    }
-
-    pub fn asks(self, register: u8) -> Bench {
-        let mut after = self.word(KIND_READ * 0x1000_0000 + register as u32 % 16 * 0x0100_0000);
-        if (after.answer / 0x1000_0000 == KIND_VALUE) & (register == REG_RBF) {
-            after.stored = more(after.stored);
+    // The line settles to the wired AND of what its two parties drive; start is driven over either level.
+    fn slot(mut self, other: u32, awaited: u32) -> Bench {
+        self.due = true;
+        self.word = SLOT_HIGH;
+        if (other == SLOT_LOW) | (self.drive == SLOT_LOW) {
+            self.word = SLOT_LOW;
         }
-        after
-    }
-
-    // The host reads a register and is to find `value` there.
-    pub fn reads(self, register: u8, value: u8) -> Bench {
-        let after = self.asks(register);
-        let given = after.answer / 0x1000_0000 == KIND_VALUE;
-        let right = given & (after.answer % 256 == value as u32);
-        after.holds(right)
-    }
-
-    // The other party drives a level or start in a slot.
-    pub fn slot(mut self, other: u32) -> Bench {
-        let line = settled(other, self.drive);
-        if line == SLOT_START {
-            self.frames = more(self.frames);
+        if (other == SLOT_START) | (self.drive == SLOT_START) {
+            self.word = SLOT_START;
         }
-        self.line = line;
-        self.heard = self.heard % 0x4000_0000 * 2 + line % 2;
-        self.word(line)
-    }
-
-    // A slot in which nobody drives anything, as the unit's latest answer has to say too.
-    pub fn idle(self) -> Bench {
-        let released = self.drive == DRIVE_RELEASED as u32;
-        self.holds(released).word(SLOT_IDLE)
-    }
-
-    // A field of the other party's: the bits of `value` from that of the weight `top` on, and then `p`.
-    pub fn field(mut self, value: u32, top: u32, p: u32) -> Bench {
-        self.heard = 0;
-        let mut weight = top;
-        while weight > 0 {
-            self = self.slot(value / weight % 2);
-            weight /= 2;
-        }
-        self.slot(p)
-    }
-
-    // The levels of the latest field are those of `value` and the P that makes the number of ones even.
-    pub fn heard_as(self, value: u32) -> Bench {
-        let right = self.heard == with_p(value);
+        let right = self.word == awaited;
         self.holds(right)
     }
 
-    // The other party sends a field.
-    pub fn sends(self, value: u32, top: u32) -> Bench {
-        self.field(value, top, parity(value)).heard_as(value)
+    // Nobody drives anything in an idle slot, as the unit's latest answer has to say too.
+    fn idle(mut self) -> Bench {
+        self.due = true;
+        self.word = SLOT_IDLE;
+        let released = self.drive == DRIVE_RELEASED as u32;
+        self.holds(released)
     }
 
-    // The other party releases the line for a field, in which the unit is to drive `value`.
-    pub fn hears(self, value: u32, top: u32) -> Bench {
-        self.field(0xFFF, top, SLOT_HIGH).heard_as(value)
-    }
-
-    // The other party releases the line for one slot, which is to settle to `level`, or to be a start.
-    pub fn awaits(self, level: u32) -> Bench {
-        let after = self.slot(SLOT_HIGH);
-        let right = after.line == level;
-        after.holds(right)
-    }
-
-    // The other party hears a byte of the unit's and gives ACK.
-    pub fn takes(self, value: u32) -> Bench {
-        let heard = self.hears(value, BYTE);
-        let mut after = heard.slot(SLOT_LOW);
-        if heard.heard == with_p(value) {
-            after.sent = more(after.sent);
+    fn counts(mut self) -> Bench {
+        if self.wrong == self.wrong_before {
+            self.counted = wrapping_add_u64(self.counted, 1);
         }
-        after
+        self.wrong_before = self.wrong;
+        self
+    }
+
+    // The end of a turn of a group, which is run again from its beginning until it was run as often as asked for.
+    fn turns_over(mut self) -> Bench {
+        if self.turned == 0 {
+            self.first = self.sum;
+        }
+        if self.sum == self.first {
+            self.alike = wrapping_add_u64(self.alike, 1);
+        }
+        self.last = self.sum;
+        self.sum = 0;
+        self.turned = wrapping_add_u64(self.turned, 1);
+        if self.turned < self.turns {
+            self.at = self.from;
+        }
+        self
+    }
+
+    // Figures may stand apart. The number of turns is decimal, all others are hexadecimal.
+    fn figure(mut self, character: u8) -> Bench {
+        if (character == b' ') | (character == b'\n') {
+            return self;
+        }
+        let value = value_of(character);
+        let kept = self.number % 0x1_0000;
+        self.number = kept * 16 + value % 16;
+        if self.part == b'(' {
+            self.number = kept * 10 + value % 16;
+        }
+        self.figures = wrapping_sub_u32(self.figures, 1);
+        let read = self.holds(value < 16);
+        if read.figures == 0 {
+            return read.performs();
+        }
+        read
+    }
+
+    // An operation whose figures are all read.
+    fn performs(mut self) -> Bench {
+        let operation = self.part;
+        let number = self.number;
+        self.part = b' ';
+        match operation {
+            b'w' => {
+                self.due = true;
+                self.word = KIND_WRITE * KIND + number / 256 % 16 * REGISTER + number % 256;
+                self
+            }
+            b'r' => {
+                self.due = true;
+                self.word = KIND_READ * KIND + number % 16 * REGISTER;
+                self
+            }
+            b'=' => {
+                let right = (self.answer / KIND == KIND_VALUE) & (self.answer % 256 == number);
+                self.holds(right)
+            }
+            b'x' => {
+                let right = self.answer == KIND_REFUSED * KIND + number % 256;
+                self.holds(right)
+            }
+            _ => {
+                self.from = self.at;
+                self.turns = number as u64;
+                self.turned = 0;
+                self.alike = 0;
+                self.sum = 0;
+                self
+            }
+        }
+    }
+
+    pub fn answered(mut self, answer: u32) -> Bench {
+        self.answer = answer;
+        self.sum = (self.sum % PRIME * FACTOR + answer as u64) % PRIME;
+        self.words = wrapping_add_u64(self.words, 1);
+        if self.word == SLOT_START {
+            self.frames = wrapping_add_u64(self.frames, 1);
+        }
+        if answer / KIND == KIND_REFUSED {
+            self.refused = wrapping_add_u64(self.refused, 1);
+            return self;
+        }
+        if self.word == RBF_READ {
+            self.stored = wrapping_add_u64(self.stored, 1);
+        }
+        self.drive = answer / 256 % 4;
+        self
+    }
+
+    // A line of text to be printed, in which `$` and a letter stand for a number.
+    fn prints(mut self, character: u8) -> Bench {
+        if self.part == b'$' {
+            self.part = b'"';
+            self.shows(character);
+            return self;
+        }
+        match character {
+            b'"' => {
+                self.part = b' ';
+                self
+            }
+            b'$' => {
+                self.part = b'$';
+                self
+            }
+            _ => {
+                let one = [character];
+                text(&one);
+                self
+            }
+        }
+    }
+
+    fn shows(self, letter: u8) {
+        match letter {
+            b'a' => hex_word(self.answer as u64),
+            b'v' => hex_byte(self.answer as u64),
+            b'l' => decimal(self.word as u64),
+            b'f' => decimal(self.frames),
+            b'w' => decimal(self.words),
+            b'r' => decimal(self.refused),
+            b'x' => decimal(self.wrong),
+            b'b' => decimal(self.stored),
+            b'+' => decimal(self.counted),
+            b'=' => decimal(self.alike),
+            b't' => decimal(self.turned),
+            b'1' => hex_word(self.first),
+            b'2' => hex_word(self.last),
+            _ => text(b"\n"),
+        }
     }
 }
