@@ -4,10 +4,10 @@ use Rattle.unit_cases.proofs.run.Statement.{statement}
 use Rattle.unit_cases.proofs.run.Tie as tie
 
 abbrev Inv-loop : tie.InvT-loop
-Inv-loop script bench₀ unit₀ t7 counter₀ bench unit counter = Unit
+Inv-loop script life₀ counter₀ life counter = Unit
 
 abbrev μ-loop : tie.MeasureT-loop
-μ-loop script bench₀ unit₀ t7 counter₀ bench unit counter = 20000000 - counter
+μ-loop script life₀ counter₀ life counter = 20000000 - counter
 
 pub run-spec : {M : Type 1} → statement M
 run-spec =
@@ -21,13 +21,7 @@ run-spec =
     (λ c. search needs)
     (λ c. search needs)
     (λ c κs. search needs)
-    (λ c κs. search needs)
-    (λ c κs. search needs)
-    (λ c κs. search needs)
-    (λ c κs. search needs)
     (λ c. search needs)
     (λ c. search needs)
     (λ c. search needs)
-    (λ c. search needs)
-    (λ c κs. search needs)
     (λ c. search needs))
