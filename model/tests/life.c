@@ -1,242 +1,200 @@
-/* A round of thirteen frames at one unit, as the program unit_cases runs it: the sum over the answers, worked out here
- * with the model, is the one that its file 'stdout' has. */
+/* The text that the program unit_cases is run over, run over the model by a reader of its own: what the text awaits
+ * comes here too, and what is printed is what the file 'stdout' of that program has. The text says at its head how it
+ * is read. Run from model/. */
+#include <ctype.h>
+#include <stdio.h>
+#include <stdlib.h>
+#include <string.h>
+
 #include "bench.h"
 
+#define TEXT "../crates/unit_cases/stdin"
+#define PRINTED "../crates/unit_cases/stdout"
 #define SUM_PRIME 4294967291u
 #define SUM_FACTOR 65599u
-#define SUM_OF_A_ROUND 0xBC456CB2u
-#define OWN_ADDRESS 0x525u
-#define CALLED_ADDRESS 0x7A4u
-#define HOLDER 0x123u
-#define STRANGER 0x456u
+#define OPERATION_FIGURES 3
+
+struct counts {
+    unsigned frames, words, refused, wrong, stored, counted, wrong_before;
+};
 
 struct life {
     struct unit unit;
-    uint64_t sum;
-    unsigned drive, words, refused;
+    struct counts counts;
+    const char *text;
+    FILE *printed;
+    uint64_t sum, first;
+    uint32_t answer;
+    unsigned drive, line, turned, alike, wrong_in_all;
 };
 
-static uint32_t word(struct life *l, uint32_t w)
+static void awaits(struct life *l, bool held)
 {
-    uint32_t answer = model_step(&l->unit, w);
-    l->sum = (l->sum * SUM_FACTOR + answer) % SUM_PRIME;
-    l->words++;
-    if (answer >> KIND_SHIFT == KIND_REFUSED)
-        l->refused++;
+    l->counts.wrong += !held;
+    l->wrong_in_all += !held;
+}
+
+static void word(struct life *l, uint32_t w)
+{
+    l->answer = model_step(&l->unit, w);
+    l->sum = (l->sum * SUM_FACTOR + l->answer) % SUM_PRIME;
+    l->counts.words++;
+    if (l->answer >> KIND_SHIFT == KIND_REFUSED)
+        l->counts.refused++;
     else
-        l->drive = answer >> DRIVE_SHIFT & DRIVE_MASK;
-    return answer;
+        l->drive = l->answer >> DRIVE_SHIFT & DRIVE_MASK;
 }
 
-static void host_writes(struct life *l, unsigned reg, unsigned value)
+/* The wired AND of what the other party and the unit drive, or idle; start is driven over either level. */
+static void line_slot(struct life *l, unsigned other, unsigned awaited)
 {
-    word(l, (uint32_t)KIND_WRITE << KIND_SHIFT | reg << REGISTER_SHIFT | value);
+    if (other == SLOT_START || l->drive == DRIVE_START)
+        l->line = SLOT_START;
+    else
+        l->line = l->drive == DRIVE_0 ? SLOT_LEVEL_0 : other;
+    awaits(l, l->line == awaited);
+    l->counts.frames += l->line == SLOT_START;
+    word(l, l->line);
 }
 
-static void host_reads(struct life *l, unsigned reg, unsigned times)
+/* The figures of an operation, among blanks. */
+static unsigned number(struct life *l)
 {
-    while (times-- > 0)
-        word(l, (uint32_t)KIND_READ << KIND_SHIFT | reg << REGISTER_SHIFT);
+    char figures[OPERATION_FIGURES + 1] = "";
+    for (unsigned i = 0; i < OPERATION_FIGURES && *l->text != '\0'; l->text++)
+        if (*l->text != ' ') {
+            awaits(l, isdigit((unsigned char)*l->text) || strchr("ABCDEF", *l->text));
+            figures[i++] = *l->text;
+        }
+    return (unsigned)strtoul(figures, NULL, 16);
 }
 
-/* The wired AND of what the other party and the unit drive; start is driven over either level. */
-static void line_slot(struct life *l, unsigned other)
+static void host_writes(struct life *l)
 {
-    word(l, other == SLOT_START || l->drive == DRIVE_START ? SLOT_START : other & l->drive);
+    unsigned figures = number(l);
+    word(l, (uint32_t)KIND_WRITE << KIND_SHIFT | figures >> 8 << REGISTER_SHIFT | (figures & VALUE_MASK));
 }
 
-static void line_field(struct life *l, unsigned value, unsigned bits, unsigned p)
+static void host_reads(struct life *l)
 {
-    for (unsigned left = bits; left > 0; left--)
-        line_slot(l, value >> (left - 1) & 1);
-    line_slot(l, p);
+    unsigned figures = number(l), reg = figures >> 8;
+    word(l, (uint32_t)KIND_READ << KIND_SHIFT | reg << REGISTER_SHIFT);
+    bool value = l->answer >> KIND_SHIFT == KIND_VALUE;
+    awaits(l, value && (l->answer & VALUE_MASK) == (figures & VALUE_MASK));
+    l->counts.stored += value && reg == READ_RBF;
 }
 
-/* A field that the other party sends, and one that it leaves to the unit; then A: 0 where it gives ACK. */
-static void sends(struct life *l, unsigned value, unsigned bits)
+static void count_one(struct life *l)
 {
-    line_field(l, value, bits, parity(value));
+    l->counts.counted += l->counts.wrong == l->counts.wrong_before;
+    l->counts.wrong_before = l->counts.wrong;
 }
 
-static void leaves(struct life *l, unsigned bits, unsigned a)
+static void show(struct life *l, char letter)
 {
-    line_field(l, ~0u, bits, 1);
-    line_slot(l, a);
-}
-
-/* Slots of another master's from start to the control's A. */
-static void calls(struct life *l, unsigned bit, unsigned master, unsigned slave, unsigned control)
-{
-    line_slot(l, SLOT_START);
-    line_slot(l, bit);
-    sends(l, master, ADDRESS_BITS);
-    sends(l, slave, ADDRESS_BITS);
-    line_slot(l, 1);
-    sends(l, control, CONTROL_BITS);
-    line_slot(l, 1);
-}
-
-/* The same of the unit as master, which drives start itself; its slave gives ACK. */
-static void led(struct life *l)
-{
-    line_slot(l, 1);
-    line_slot(l, 1);
-    line_field(l, ~0u, ADDRESS_BITS, 1);
-    leaves(l, ADDRESS_BITS, 0);
-    leaves(l, CONTROL_BITS, 0);
-}
-
-/* A length of the other party's, and some of its bytes. */
-static void given(struct life *l, unsigned length, unsigned first, unsigned bytes)
-{
-    sends(l, length, BYTE_BITS);
-    line_slot(l, 1);
-    for (unsigned i = 0; i < bytes; i++) {
-        sends(l, first + i, BYTE_BITS);
-        line_slot(l, 1);
+    switch (letter) {
+    case 'a': fprintf(l->printed, "%08x", (unsigned)l->answer); break;
+    case 'v': fprintf(l->printed, "%02x", (unsigned)(l->answer & VALUE_MASK)); break;
+    case 'l': fprintf(l->printed, "%u", l->line); break;
+    case 'f': fprintf(l->printed, "%u", l->counts.frames); break;
+    case 'w': fprintf(l->printed, "%u", l->counts.words); break;
+    case 'r': fprintf(l->printed, "%u", l->counts.refused); break;
+    case 'x': fprintf(l->printed, "%u", l->counts.wrong); break;
+    case 'b': fprintf(l->printed, "%u", l->counts.stored); break;
+    case '+': fprintf(l->printed, "%u", l->counts.counted); break;
+    case '=': fprintf(l->printed, "%u", l->alike); break;
+    case 't': fprintf(l->printed, "%u", l->turned); break;
+    case '1': fprintf(l->printed, "%08x", (unsigned)l->first); break;
+    case '2': fprintf(l->printed, "%08x", (unsigned)l->sum); break;
+    case '/': fputc('\n', l->printed); break;
+    default: awaits(l, false);
     }
 }
 
-static void ended(struct life *l)
+static void print(struct life *l)
 {
-    word(l, SLOT_IDLE);
+    while (*l->text != '\0' && *l->text != '"') {
+        char c = *l->text++;
+        if (c == '$' && *l->text != '\0')
+            show(l, *l->text++);
+        else
+            fputc(c, l->printed);
+    }
+    l->text += *l->text == '"';
 }
 
-/* Length and bytes of the unit's, each ACKed, up to the closing idle slot. */
-static void taken(struct life *l, unsigned bytes)
+static void run(struct life *l);
+
+static void group(struct life *l)
 {
-    for (unsigned i = 0; i <= bytes; i++)
-        leaves(l, BYTE_BITS, 0);
-    ended(l);
+    unsigned turns = number(l);
+    const char *from = l->text;
+    l->alike = 0;
+    for (l->turned = 0; l->turned < turns; l->turned++) {
+        l->text = from;
+        l->sum = 0;
+        run(l);
+        if (l->turned == 0)
+            l->first = l->sum;
+        l->alike += l->sum == l->first;
+    }
+    l->text += *l->text == ')';
 }
 
-static void fills(struct life *l, unsigned first)
+static void operation(struct life *l, char c)
 {
-    host_writes(l, WRITE_TBF, 2);
-    host_writes(l, WRITE_TBF, first);
-    host_writes(l, WRITE_TBF, first + 1);
+    switch (c) {
+    case ' ': case '\n': break;
+    case '#': l->text += strcspn(l->text, "\n"); break;
+    case '0': line_slot(l, SLOT_LEVEL_0, SLOT_LEVEL_0); break;
+    case '1': case 'l': line_slot(l, SLOT_LEVEL_1, SLOT_LEVEL_1); break;
+    case 'o': line_slot(l, SLOT_LEVEL_1, SLOT_LEVEL_0); break;
+    case 'S': line_slot(l, SLOT_START, SLOT_START); break;
+    case 's': line_slot(l, SLOT_LEVEL_1, SLOT_START); break;
+    case 'I': line_slot(l, SLOT_IDLE, SLOT_IDLE); break;
+    case 'w': host_writes(l); break;
+    case 'r': host_reads(l); break;
+    case '+': count_one(l); break;
+    case '(': group(l); break;
+    case 'R': l->counts = (struct counts){0}; break;
+    case '"': print(l); break;
+    default: awaits(l, false);
+    }
 }
 
-/* RCR, the RDR and RBF after a reception. */
-static void reads_out(struct life *l, unsigned rdr, unsigned bytes)
+/* Up to the end of the group or of the text. */
+static void run(struct life *l)
 {
-    host_reads(l, READ_RCR, 1);
-    host_reads(l, rdr, 1);
-    host_reads(l, READ_RBF, bytes);
+    while (*l->text != '\0' && *l->text != ')')
+        operation(l, *l->text++);
 }
 
-static void reads_lock(struct life *l)
+/* A file as a string, for the caller to free; an empty one where it cannot be read. */
+static char *contents(const char *path)
 {
-    host_writes(l, WRITE_CMR, CMR_COPY_LOCK);
-    host_reads(l, READ_LOR1, 1);
-    host_reads(l, READ_LOR2, 1);
-}
-
-static void unlocked_frames(struct life *l)
-{
-    host_writes(l, WRITE_MCR, 0x8F);
-    fills(l, 0x31);
-    host_writes(l, WRITE_CMR, CMR_MASTER_REQUEST);
-    led(l);
-    taken(l, 2);
-    host_reads(l, READ_FLG, 1);
-
-    calls(l, 1, HOLDER, OWN_ADDRESS, CONTROL_DATA);
-    given(l, 2, 0x61, 2);
-    ended(l);
-    reads_out(l, READ_RDR2, 5);
-    host_writes(l, WRITE_CTR, CTR_SET_SLRE);
-
-    fills(l, 0x41);
-    host_writes(l, WRITE_CMR, CMR_OFFER_SLAVE_DATA);
-    host_reads(l, READ_FLG, 1);
-    calls(l, 1, HOLDER, OWN_ADDRESS, CONTROL_READ_LOCK);
-    taken(l, 2);
-    host_reads(l, READ_RCR, 1);
-    host_reads(l, READ_STR, 1);
-
-    host_writes(l, WRITE_MCR, 0x83);
-    host_writes(l, WRITE_CMR, CMR_MASTER_REQUEST);
-    led(l);
-    given(l, 2, 0x51, 2);
-    ended(l);
-    reads_out(l, READ_RDR1, 5);
-}
-
-static void strangers(struct life *l)
-{
-    calls(l, 1, STRANGER, OWN_ADDRESS, CONTROL_DATA);
-    ended(l);
-    calls(l, 1, STRANGER, OWN_ADDRESS, CONTROL_STATUS_UNLOCK);
-    ended(l);
-    calls(l, 0, STRANGER, 0xFFF, CONTROL_DATA);
-    given(l, 1, 0x99, 1);
-    ended(l);
-    calls(l, 1, STRANGER, OWN_ADDRESS, CONTROL_STATUS);
-    taken(l, 1);
-    host_reads(l, READ_FLG, 1);
-    host_reads(l, READ_STR, 1);
-    host_reads(l, READ_RCR, 1);
-}
-
-static void locked_frames(struct life *l)
-{
-    calls(l, 1, HOLDER, OWN_ADDRESS, CONTROL_DATA_LOCK);
-    given(l, 3, 0x71, 1);
-    line_slot(l, 0);
-    line_slot(l, 1);
-    line_slot(l, 1);
-    ended(l);
-    reads_out(l, READ_RDR2, 4);
-    reads_lock(l);
-    host_writes(l, WRITE_CTR, CTR_SET_SLRE);
-    strangers(l);
-    calls(l, 1, HOLDER, OWN_ADDRESS, CONTROL_DATA_LOCK);
-    given(l, 2, 0x72, 2);
-    ended(l);
-    reads_out(l, READ_RDR2, 5);
-    reads_lock(l);
-    host_writes(l, WRITE_CTR, CTR_SET_SLRE);
-}
-
-static void shared_frames(struct life *l)
-{
-    calls(l, 0, STRANGER, 0x500, CONTROL_DATA);
-    given(l, 2, 0x81, 2);
-    ended(l);
-    reads_out(l, READ_RDR2, 5);
-    host_writes(l, WRITE_CTR, CTR_SET_SLRE);
-
-    host_writes(l, WRITE_MCR, 0x9F);
-    fills(l, 0x33);
-    host_writes(l, WRITE_CMR, CMR_MASTER_REQUEST);
-    calls(l, 1, HOLDER, OWN_ADDRESS, CONTROL_DATA);
-    given(l, 2, 0x63, 2);
-    ended(l);
-    reads_out(l, READ_RDR2, 5);
-    host_writes(l, WRITE_CTR, CTR_SET_SLRE);
-    host_reads(l, READ_FLG, 1);
-    led(l);
-    taken(l, 2);
-    host_reads(l, READ_RCR, 1);
+    char *bytes = NULL, part[4096];
+    size_t length;
+    FILE *copy = open_memstream(&bytes, &length), *file = fopen(path, "r");
+    for (size_t count; file != NULL && (count = fread(part, 1, sizeof part, file)) > 0;)
+        fwrite(part, 1, count, copy);
+    if (file != NULL)
+        fclose(file);
+    fclose(copy);
+    return bytes;
 }
 
 void life(void)
 {
-    struct life l = {.drive = DRIVE_RELEASED};
-    prepare(&l.unit, OWN_ADDRESS, 2, false);
-    write_register(&l.unit, WRITE_SAR1, CALLED_ADDRESS << 4 & 0xFF);
-    write_register(&l.unit, WRITE_SAR2, CALLED_ADDRESS >> 4);
-    write_register(&l.unit, WRITE_CTR, CTR_SET_SLRE);
-    slot(&l.unit, SLOT_IDLE);
-    unsigned alike = 0;
-    for (unsigned round = 0; round < 1000; round++) {
-        l.sum = 0;
-        unlocked_frames(&l);
-        locked_frames(&l);
-        shared_frames(&l);
-        alike += l.sum == SUM_OF_A_ROUND;
-    }
-    report("a round of unit_cases has the sum that it prints, a thousand times", alike == 1000, "another sum");
-    report("a round of unit_cases has 848 words and none is refused", l.words == 848000 && l.refused == 0, "not so");
+    char *text = contents(TEXT), *expected = contents(PRINTED), *printed = NULL;
+    size_t length;
+    struct life l = {.drive = DRIVE_RELEASED, .text = text, .printed = open_memstream(&printed, &length)};
+    model_reset(&l.unit);
+    run(&l);
+    fclose(l.printed);
+    report("the text of unit_cases is run to its end", l.text > text && *l.text == '\0', "it is missing or cut off");
+    report("all that the text of unit_cases awaits comes", l.wrong_in_all == 0, "something else came");
+    report("the text of unit_cases prints what the program prints", strcmp(printed, expected) == 0, "other lines");
+    free(text);
+    free(expected);
+    free(printed);
 }

@@ -1,18 +1,19 @@
-// A unit on a bench: the host that writes and reads its registers, and the line that it shares with another party.
-ghost use Prim.Native.Nat.{_≤_};
-use answers::answer_word;
+// A unit on a bench: the host that writes and reads its registers, the line that it shares with another party, and
+// the text that says what both do and what is to come of it, read character by character.
+use libc::STDOUT_FILENO;
 use line::numbers::DRIVE_RELEASED;
 use line::numbers::KIND_READ;
 use line::numbers::KIND_REFUSED;
 use line::numbers::KIND_VALUE;
 use line::numbers::KIND_WRITE;
-use line::numbers::REG_RBF;
 use line::numbers::SLOT_HIGH;
 use line::numbers::SLOT_IDLE;
 use line::numbers::SLOT_LOW;
 use line::numbers::SLOT_START;
+use std::num::wrapping_add_u8;
+use std::num::wrapping_add_u32;
 use std::num::wrapping_add_u64;
-use unit::step::Unit;
+use std::num::wrapping_add_usize;
 
 // A sum over answers that tells their order too: each time the sum is multiplied and the answer added, modulo the
 // largest prime below 2^32.
@@ -20,190 +21,256 @@ const PRIME: u64 = 4_294_967_291;
 
 const FACTOR: u64 = 65_599;
 
-// The weight of the highest bit of a field: 12 bits, 4 and 8.
-pub const ADDRESS: u32 = 0x800;
+// A word of the host's that reads RBF.
+const RBF_READ: u32 = 0x2E00_0000;
 
-pub const CONTROL: u32 = 0x8;
-
-pub const BYTE: u32 = 0x80;
+// The bits of an answer that say its kind and its value.
+const KIND_AND_VALUE: u32 = 0xF000_00FF;
 
 pub struct Bench {
-    pub unit: Unit,
-    // What the unit drives: bits 9-8 of its latest answer that is no refusal.
-    pub drive: u32,
-    pub answer: u32,
-    // What the line settled to in the latest slot.
-    pub line: u32,
-    // The levels of the latest field, highest bit first and P last.
-    pub heard: u32,
-    // All answers since it was last made 0.
-    pub sum: u64,
+    // Where in the text the next character stands.
+    pub at: usize,
+    // What that character belongs to: an operation (a blank), or what began with the character that is kept here.
+    part: u8,
+    // The figures of an operation that were read, and the number that they make.
+    figures: u8,
+    number: u32,
+    // The latest word, whether it is still to go to the unit, and what is awaited: the slot that it is to be, or the
+    // kind and the value of its answer.
+    pub word: u32,
+    pub due: bool,
+    awaited: u32,
+    // The latest answer, and what the unit drives: bits 9-8 of the latest one that is no refusal.
+    answer: u32,
+    drive: u32,
     pub words: u64,
-    pub refused: u64,
-    // Levels and values other than those that were worked out from document 01, which the callers name.
-    pub wrong: u64,
-    pub frames: u64,
+    frames: u64,
+    refused: u64,
+    // Slots and values other than those awaited.
+    wrong: u64,
     // Bytes that the host read from RBF.
-    pub stored: u64,
-    // Bytes of the unit's that another party ACKed.
-    pub sent: u64,
-}
-
-fn more(count: u64) -> u64 {
-    wrapping_add_u64(count, 1)
-}
-
-fn folded(sum: u64, answer: u32) -> u64 {
-    (sum % PRIME * FACTOR + answer as u64) % PRIME
-}
-
-// The line settles to the wired AND of what its two parties drive; start is driven over either level.
-fn settled(other: u32, unit: u32) -> u32 {
-    if (other == SLOT_START) | (unit == SLOT_START) {
-        return SLOT_START;
-    }
-    if (other == SLOT_LOW) | (unit == SLOT_LOW) {
-        return SLOT_LOW;
-    }
-    SLOT_HIGH
-}
-
-// "P makes the number of ones in the field and P even."
-pub fn parity(value: u32) -> u32
-    ensures { λ r. ⌜ r ≤ 1 ⌝ }
-{
-    u32::count_ones(value) % 2
-}
-
-// A field's levels with its P behind them.
-pub fn with_p(value: u32) -> u32 {
-    value % 0x1_0000 * 2 + parity(value)
+    stored: u64,
+    // What the text has counted, and how much was wrong when it last did.
+    counted: u64,
+    wrong_before: u64,
+    // A group of the text: where it begins, how often it is to be run, and how often it was.
+    from: usize,
+    turns: u32,
+    turned: u32,
+    // The sum of all answers in this turn and in the first one, and how many turns had the first's.
+    sum: u64,
+    first: u64,
+    alike: u64,
 }
 
 impl Bench {
-    // A unit after a reset, which drives nothing.
-    pub fn reset() -> Bench {
-        let unit = Unit::reset();
+    // A bench with a unit after a reset, which drives nothing, at a place of the text.
+    pub fn fresh(at: usize) -> Bench {
         Bench {
-            unit,
-            drive: DRIVE_RELEASED as u32,
+            at,
+            part: b' ',
+            figures: 0,
+            number: 0,
+            word: 0,
+            due: false,
+            awaited: 0,
             answer: 0,
-            line: SLOT_HIGH,
-            heard: 0,
-            sum: 0,
+            drive: DRIVE_RELEASED as u32,
             words: 0,
+            frames: 0,
             refused: 0,
             wrong: 0,
-            frames: 0,
             stored: 0,
-            sent: 0,
+            counted: 0,
+            wrong_before: 0,
+            from: at,
+            turns: 0,
+            turned: 0,
+            sum: 0,
+            first: 0,
+            alike: 0,
         }
     }
 
-    fn word(mut self, word: u32) -> Bench {
-        let unit = self.unit;
-        let stepped = unit.step(word);
-        let next = stepped.unit;
-        let given = stepped.answer;
-        let answer = answer_word(given);
-        self.unit = next;
+    pub fn reads(mut self, character: u8) -> Bench {
+        self.at = wrapping_add_usize(self.at, 1);
+        self.due = false;
+        let part = self.part;
+        match part {
+            b' ' => self.operation(character),
+            b'#' => {
+                if character == b'\n' {
+                    self.part = b' ';
+                }
+                self
+            }
+            b'"' => self.prints(character),
+            b'$' => {
+                self.part = b'"';
+                self.shows(character);
+                self
+            }
+            _ => self.figure(character),
+        }
+    }
+
+    fn operation(mut self, character: u8) -> Bench {
+        match character {
+            b' ' | b'\n' => self,
+            b'0' => self.slot(SLOT_LOW, SLOT_LOW),
+            b'1' | b'l' => self.slot(SLOT_HIGH, SLOT_HIGH),
+            b'o' => self.slot(SLOT_HIGH, SLOT_LOW),
+            b'S' => self.slot(SLOT_START, SLOT_START),
+            b's' => self.slot(SLOT_HIGH, SLOT_START),
+            b'I' => self.slot(SLOT_IDLE, SLOT_IDLE),
+            b'#' | b'"' | b'w' | b'r' | b'(' => {
+                self.part = character;
+                self.figures = 0;
+                self.number = 0;
+                self
+            }
+            b')' => self.turn(),
+            b'+' => {
+                let right = self.wrong == self.wrong_before;
+                self.counted = wrapping_add_u64(self.counted, right as u64);
+                self.wrong_before = self.wrong;
+                self
+            }
+            b'R' => Bench::fresh(self.at),
+            _ => {
+                self.wrong = wrapping_add_u64(self.wrong, 1);
+                self
+            }
+        }
+    }
+
+    // The line settles to the wired AND of what its two parties drive, or to idle where neither drives anything; start
+    // is driven over either level.
+    fn slot(mut self, other: u32, awaited: u32) -> Bench {
+        self.due = true;
+        self.word = other;
+        self.awaited = awaited;
+        if (self.drive == SLOT_LOW) & (other != SLOT_START) {
+            self.word = SLOT_LOW;
+        }
+        if self.drive == SLOT_START {
+            self.word = SLOT_START;
+        }
+        self
+    }
+
+    // The end of a turn of a group, which is run again from its beginning until it was run as often as asked for.
+    fn turn(mut self) -> Bench {
+        if self.turned == 0 {
+            self.first = self.sum;
+        }
+        self.alike = wrapping_add_u64(self.alike, (self.sum == self.first) as u64);
+        self.turned = wrapping_add_u32(self.turned, 1);
+        if self.turned < self.turns {
+            self.sum = 0;
+            self.at = self.from;
+        }
+        self
+    }
+
+    // A figure of an operation's number, or a blank between two. With the third the operation is carried out.
+    fn figure(mut self, character: u8) -> Bench {
+        if character == b' ' {
+            return self;
+        }
+        self.number = self.number << 4 | (character % 16 + character / 64 * 9) as u32;
+        self.figures = wrapping_add_u8(self.figures, 1);
+        if self.figures < 3 {
+            return self;
+        }
+        let operation = self.part;
+        let number = self.number;
+        self.part = b' ';
+        self.due = operation != b'(';
+        match operation {
+            b'w' => {
+                self.word = KIND_WRITE << 28 | number >> 8 << 24 | number & 0xFF;
+                self.awaited = self.word;
+                self
+            }
+            b'r' => {
+                self.word = KIND_READ << 28 | number >> 8 << 24;
+                self.awaited = KIND_VALUE << 28 | number & 0xFF;
+                self
+            }
+            _ => {
+                self.from = self.at;
+                self.turns = number;
+                self.turned = 0;
+                self.alike = 0;
+                self.sum = 0;
+                self
+            }
+        }
+    }
+
+    pub fn answered(mut self, answer: u32) -> Bench {
         self.answer = answer;
-        self.sum = folded(self.sum, answer);
-        self.words = more(self.words);
-        if answer / 0x1000_0000 == KIND_REFUSED {
-            self.refused = more(self.refused);
+        self.sum = (self.sum % PRIME * FACTOR + answer as u64) % PRIME;
+        self.words = wrapping_add_u64(self.words, 1);
+        self.frames = wrapping_add_u64(self.frames, (self.word == SLOT_START) as u64);
+        let mut found = self.word;
+        if self.word >> 28 == KIND_READ {
+            found = answer & KIND_AND_VALUE;
+        }
+        self.wrong = wrapping_add_u64(self.wrong, (found != self.awaited) as u64);
+        if answer >> 28 == KIND_REFUSED {
+            self.refused = wrapping_add_u64(self.refused, 1);
             return self;
         }
-        self.drive = answer / 256 % 4;
+        self.stored = wrapping_add_u64(self.stored, (self.word == RBF_READ) as u64);
+        self.drive = answer >> 8 & 3;
         self
     }
 
-    fn holds(mut self, right: bool) -> Bench {
-        if right {
-            return self;
+    // A character of what is to be printed; `$` and a letter stand for a number.
+    fn prints(mut self, character: u8) -> Bench {
+        match character {
+            b'"' => {
+                self.part = b' ';
+            }
+            b'$' => {
+                self.part = b'$';
+            }
+            _ => {
+                let one = [character];
+                io::write_all(STDOUT_FILENO, &one);
+            }
         }
-        self.wrong = more(self.wrong);
         self
     }
 
-    pub fn writes(self, register: u8, value: u8) -> Bench {
-        self.word(KIND_WRITE * 0x1000_0000 + register as u32 % 16 * 0x0100_0000 + value as u32)
-    }
-
-    pub fn asks(self, register: u8) -> Bench {
-        let mut after = self.word(KIND_READ * 0x1000_0000 + register as u32 % 16 * 0x0100_0000);
-        if (after.answer / 0x1000_0000 == KIND_VALUE) & (register == REG_RBF) {
-            after.stored = more(after.stored);
+    fn number_of(self, letter: u8) -> u64 {
+        match letter {
+            b'a' => self.answer as u64,
+            b'v' => self.answer as u64 % 256,
+            b'l' => self.word as u64,
+            b'f' => self.frames,
+            b'w' => self.words,
+            b'r' => self.refused,
+            b'x' => self.wrong,
+            b'b' => self.stored,
+            b'+' => self.counted,
+            b'=' => self.alike,
+            b't' => self.turned as u64,
+            b'1' => self.first,
+            _ => self.sum,
         }
-        after
     }
 
-    // The host reads a register and is to find `value` there.
-    pub fn reads(self, register: u8, value: u8) -> Bench {
-        let after = self.asks(register);
-        let given = after.answer / 0x1000_0000 == KIND_VALUE;
-        let right = given & (after.answer % 256 == value as u32);
-        after.holds(right)
-    }
-
-    // The other party drives a level or start in a slot.
-    pub fn slot(mut self, other: u32) -> Bench {
-        let line = settled(other, self.drive);
-        if line == SLOT_START {
-            self.frames = more(self.frames);
+    fn shows(self, letter: u8) {
+        let number = self.number_of(letter);
+        match letter {
+            b'a' | b'1' | b'2' => io::print_hex(STDOUT_FILENO, number, 8),
+            b'v' => io::print_hex(STDOUT_FILENO, number, 2),
+            b'/' => io::write_all(STDOUT_FILENO, b"\n"),
+            _ => io::print_decimal(STDOUT_FILENO, number),
         }
-        self.line = line;
-        self.heard = self.heard % 0x4000_0000 * 2 + line % 2;
-        self.word(line)
-    }
-
-    // A slot in which nobody drives anything, as the unit's latest answer has to say too.
-    pub fn idle(self) -> Bench {
-        let released = self.drive == DRIVE_RELEASED as u32;
-        self.holds(released).word(SLOT_IDLE)
-    }
-
-    // A field of the other party's: the bits of `value` from that of the weight `top` on, and then `p`.
-    pub fn field(mut self, value: u32, top: u32, p: u32) -> Bench {
-        self.heard = 0;
-        let mut weight = top;
-        while weight > 0 {
-            self = self.slot(value / weight % 2);
-            weight /= 2;
-        }
-        self.slot(p)
-    }
-
-    // The levels of the latest field are those of `value` and the P that makes the number of ones even.
-    pub fn heard_as(self, value: u32) -> Bench {
-        let right = self.heard == with_p(value);
-        self.holds(right)
-    }
-
-    // The other party sends a field.
-    pub fn sends(self, value: u32, top: u32) -> Bench {
-        self.field(value, top, parity(value)).heard_as(value)
-    }
-
-    // The other party releases the line for a field, in which the unit is to drive `value`.
-    pub fn hears(self, value: u32, top: u32) -> Bench {
-        self.field(0xFFF, top, SLOT_HIGH).heard_as(value)
-    }
-
-    // The other party releases the line for one slot, which is to settle to `level`, or to be a start.
-    pub fn awaits(self, level: u32) -> Bench {
-        let after = self.slot(SLOT_HIGH);
-        let right = after.line == level;
-        after.holds(right)
-    }
-
-    // The other party hears a byte of the unit's and gives ACK.
-    pub fn takes(self, value: u32) -> Bench {
-        let heard = self.hears(value, BYTE);
-        let mut after = heard.slot(SLOT_LOW);
-        if heard.heard == with_p(value) {
-            after.sent = more(after.sent);
-        }
-        after
+        ;
     }
 }

@@ -1,38 +1,63 @@
-// Runs one unit on the cases of document 01 that are run and not proved, and on a long life of frames.
-mod attempts;
+// Runs one unit over a text of words, levels and expectations: the cases of document 01 that are run and not proved,
+// and a long life of frames. The text is the program's standard input, and says at its head how it is read.
 mod bench;
-mod frames;
-mod life;
-mod show;
 
 use crate::bench::Bench;
-use crate::show::hex;
-use crate::show::text;
-use line::numbers::REG_TBF;
+use answers::answer_word;
+use libc::STDIN_FILENO;
+use libc::STDOUT_FILENO;
+use unit::step::Unit;
 
-// 33 bytes written to TBF after a reset.
-fn filled() -> Bench {
-    let mut bench = Bench::reset();
-    for i in 0..33u8 {
-        bench = bench.writes(REG_TBF, i);
-    }
-    bench
+// Room for the text, and one byte more, by which a longer one is seen.
+const TEXT_BYTES: usize = 32769;
+
+// So many characters are read at most, those of a repeated group counted each time, so that every text comes to an
+// end; one that goes on does not print its last lines. The thousand rounds have six million.
+const MOST_CHARACTERS: usize = 20_000_000;
+
+// A unit, and the bench that it is on.
+struct Life {
+    unit: Unit,
+    bench: Bench,
 }
 
-// "TBF takes byte 33, refuses 34". After a reset the unit drives nothing, so byte 33 is answered by kind 9 with 1,
-// released, in bits 9-8: 90000100. Byte 34 is answered by kind 15 and number 7, "TBF write at 33 bytes": F0000007.
-fn tbf_bytes() {
-    let full = filled();
-    text(b"TBF byte 33:");
-    hex(full.answer as u64, 0x1000_0000);
-    let after = full.writes(REG_TBF, 33);
-    text(b"\nTBF byte 34:");
-    hex(after.answer as u64, 0x1000_0000);
-    text(b"\n");
+// A character of the text is read; if it has a word for the unit, the word goes to it and the answer to the bench.
+fn read(life: Life, character: u8) -> Life {
+    let unit = life.unit;
+    let before = life.bench;
+    let bench = before.reads(character);
+    if !bench.due {
+        return Life { unit, bench };
+    }
+    let stepped = unit.step(bench.word);
+    let next = stepped.unit;
+    let answer = stepped.answer;
+    Life {
+        unit: next,
+        bench: bench.answered(answer_word(answer)),
+    }
+}
+
+fn run(script: &[u8]) {
+    let mut life = Life {
+        unit: Unit::reset(),
+        bench: Bench::fresh(0),
+    };
+    for _ in 0..MOST_CHARACTERS {
+        let at = life.bench.at;
+        if at >= script.len() {
+            return;
+        }
+        life = read(life, script[at]);
+    }
 }
 
 fn main() {
-    tbf_bytes();
-    attempts::all();
-    life::whole();
+    let mut input = [0u8; TEXT_BYTES];
+    let count = io::read_full(STDIN_FILENO, &mut input);
+    if count == TEXT_BYTES {
+        io::write_all(STDOUT_FILENO, b"the text is too long\n");
+        return;
+    }
+    run(&input[..count]);
 }
