@@ -130,6 +130,7 @@ static void group(struct life *l)
     unsigned turns = number(l);
     const char *from = l->text;
     l->alike = 0;
+    l->counts.wrong_before = l->counts.wrong;
     for (l->turned = 0; l->turned < turns; l->turned++) {
         l->text = from;
         l->sum = 0;

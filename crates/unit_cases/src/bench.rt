@@ -43,14 +43,14 @@ pub struct Bench {
     // The latest answer, and what the unit drives: bits 9-8 of the latest one that is no refusal.
     answer: u32,
     drive: u32,
-    pub words: u64,
+    words: u64,
     frames: u64,
     refused: u64,
     // Slots and values other than those awaited.
     wrong: u64,
     // Bytes that the host read from RBF.
     stored: u64,
-    // What the text has counted, and how much was wrong when it last did.
+    // What the text has counted, and how much was wrong when it last did or began a group.
     counted: u64,
     wrong_before: u64,
     // A group of the text: where it begins, how often it is to be run, and how often it was.
@@ -64,7 +64,7 @@ pub struct Bench {
 }
 
 impl Bench {
-    // A bench with a unit after a reset, which drives nothing, at a place of the text.
+    // All counts 0, at a place of the text, and a unit that drives nothing, as after a reset.
     pub fn fresh(at: usize) -> Bench {
         Bench {
             at,
@@ -204,6 +204,7 @@ impl Bench {
                 self.turned = 0;
                 self.alike = 0;
                 self.sum = 0;
+                self.wrong_before = self.wrong;
                 self
             }
         }
