@@ -21,6 +21,15 @@ const PRIME: u64 = 4_294_967_291;
 
 const FACTOR: u64 = 65_599;
 
+// The kinds of words and answers, in the top four bits: the host writes, and it reads; a value, and a refusal.
+const WRITE: u32 = KIND_WRITE * 0x1000_0000;
+
+const READ: u32 = KIND_READ * 0x1000_0000;
+
+const VALUE: u32 = KIND_VALUE * 0x1000_0000;
+
+const REFUSED: u32 = KIND_REFUSED * 0x1000_0000;
+
 // A word of the host's that reads RBF.
 const RBF_READ: u32 = 0x2E00_0000;
 
@@ -35,8 +44,7 @@ pub struct Bench {
     // The figures of an operation that were read, and the number that they make.
     figures: u8,
     number: u32,
-    // The latest word, whether it is still to go to the unit, and what is awaited: the slot that it is to be, or the
-    // kind and the value of its answer.
+    // The latest word, whether it is still to go to the unit, and what a read is to be answered: kind and value.
     pub word: u32,
     pub due: bool,
     awaited: u32,
@@ -61,6 +69,18 @@ pub struct Bench {
     sum: u64,
     first: u64,
     alike: u64,
+}
+
+// The line settles to the wired AND of what its two parties drive, or to idle where neither drives anything; start is
+// driven over either level.
+fn settled(other: u32, unit: u32) -> u32 {
+    if unit == SLOT_START {
+        return SLOT_START;
+    }
+    if (unit == SLOT_LOW) & (other != SLOT_START) {
+        return SLOT_LOW;
+    }
+    other
 }
 
 impl Bench {
@@ -99,12 +119,27 @@ impl Bench {
         match part {
             b' ' => self.operation(character),
             b'#' => {
-                if character == b'\n' {
-                    self.part = b' ';
+                if character != b'\n' {
+                    return self;
                 }
+                self.part = b' ';
                 self
             }
-            b'"' => self.prints(character),
+            b'"' => match character {
+                b'"' => {
+                    self.part = b' ';
+                    self
+                }
+                b'$' => {
+                    self.part = b'$';
+                    self
+                }
+                _ => {
+                    let one = [character];
+                    io::write_all(STDOUT_FILENO, &one);
+                    self
+                }
+            },
             b'$' => {
                 self.part = b'"';
                 self.shows(character);
@@ -144,18 +179,11 @@ impl Bench {
         }
     }
 
-    // The line settles to the wired AND of what its two parties drive, or to idle where neither drives anything; start
-    // is driven over either level.
     fn slot(mut self, other: u32, awaited: u32) -> Bench {
+        let line = settled(other, self.drive);
         self.due = true;
-        self.word = other;
-        self.awaited = awaited;
-        if (self.drive == SLOT_LOW) & (other != SLOT_START) {
-            self.word = SLOT_LOW;
-        }
-        if self.drive == SLOT_START {
-            self.word = SLOT_START;
-        }
+        self.word = line;
+        self.wrong = wrapping_add_u64(self.wrong, (line != awaited) as u64);
         self
     }
 
@@ -166,10 +194,11 @@ impl Bench {
         }
         self.alike = wrapping_add_u64(self.alike, (self.sum == self.first) as u64);
         self.turned = wrapping_add_u32(self.turned, 1);
-        if self.turned < self.turns {
-            self.sum = 0;
-            self.at = self.from;
+        if self.turned >= self.turns {
+            return self;
         }
+        self.sum = 0;
+        self.at = self.from;
         self
     }
 
@@ -189,13 +218,12 @@ impl Bench {
         self.due = operation != b'(';
         match operation {
             b'w' => {
-                self.word = KIND_WRITE << 28 | number >> 8 << 24 | number & 0xFF;
-                self.awaited = self.word;
+                self.word = WRITE | number >> 8 << 24 | number & 0xFF;
                 self
             }
             b'r' => {
-                self.word = KIND_READ << 28 | number >> 8 << 24;
-                self.awaited = KIND_VALUE << 28 | number & 0xFF;
+                self.word = READ | number >> 8 << 24;
+                self.awaited = VALUE | number & 0xFF;
                 self
             }
             _ => {
@@ -215,34 +243,14 @@ impl Bench {
         self.sum = (self.sum % PRIME * FACTOR + answer as u64) % PRIME;
         self.words = wrapping_add_u64(self.words, 1);
         self.frames = wrapping_add_u64(self.frames, (self.word == SLOT_START) as u64);
-        let mut found = self.word;
-        if self.word >> 28 == KIND_READ {
-            found = answer & KIND_AND_VALUE;
-        }
-        self.wrong = wrapping_add_u64(self.wrong, (found != self.awaited) as u64);
-        if answer >> 28 == KIND_REFUSED {
+        let missed = (self.word >= READ) & (answer & KIND_AND_VALUE != self.awaited);
+        self.wrong = wrapping_add_u64(self.wrong, missed as u64);
+        if answer >= REFUSED {
             self.refused = wrapping_add_u64(self.refused, 1);
             return self;
         }
         self.stored = wrapping_add_u64(self.stored, (self.word == RBF_READ) as u64);
         self.drive = answer >> 8 & 3;
-        self
-    }
-
-    // A character of what is to be printed; `$` and a letter stand for a number.
-    fn prints(mut self, character: u8) -> Bench {
-        match character {
-            b'"' => {
-                self.part = b' ';
-            }
-            b'$' => {
-                self.part = b'$';
-            }
-            _ => {
-                let one = [character];
-                io::write_all(STDOUT_FILENO, &one);
-            }
-        }
         self
     }
 
