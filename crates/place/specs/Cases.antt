@@ -90,15 +90,18 @@ abbrev pub spoiltAttempts : ℕ → List ℕ
 spoiltAttempts zero = []
 spoiltAttempts (suc n) = (spoilt 8 0x35 ++ 1 ∷ []) ++ spoiltAttempts n
 
--- the beginning of a frame of 525H to 123H, of 111H, and of a broadcast of 525H
+-- the beginning of a frame of 525H to 123H, of 111H, and of a broadcast
 abbrev pub from525 : List ℕ
 from525 = 1 ∷ field 12 0x525 ++ closed 12 0x123 0
 
 abbrev pub from111 : List ℕ
 from111 = 1 ∷ field 12 0x111 ++ closed 12 0x123 0
 
+abbrev pub broadcastOf : ℕ → ℕ → List ℕ
+broadcastOf master slave = 0 ∷ field 12 master ++ closed 12 slave 1
+
 abbrev pub toAll : ℕ → List ℕ
-toAll slave = 0 ∷ field 12 0x525 ++ closed 12 slave 1
+toAll slave = broadcastOf 0x525 slave
 
 -- a unit with the address 123H: STRQ, whether it can receive, and whether it is locked to 525H
 abbrev pub slaveOf : Bool → Bool → Bool → View
@@ -192,6 +195,14 @@ slaveCases =
     gives released 14 ++ heard 12 0 ++ heard 4 0 ++ heard 8 0 ++ heard 8 1 ++ heard 8 0 ++ 1 ∷ [])
     ∷ (eventsIn receiver asSlave
     (from525 ++ closed 4 0xF 0 ++ closed 8 2 0 ++ spoilt 8 0x35 ++ 1 ∷ attemptsOf 2) gives 2 ∷ 3 ∷ 4 ∷ 5 ∷ 6 ∷ [])
+    -- "An ACK is what the unit itself drives", whatever is read: an ACK is an ACK, and a NAK that reads 0 is a NAK
+    ∷ (eventsIn receiver asSlave (1 ∷ field 12 0x525 ++ closed 12 0x123 1 ++ closed 4 0xF 1) gives 2 ∷ 3 ∷ [])
+    ∷ (eventsIn receiver asSlave
+    (from525 ++ closed 4 0xF 0 ++ closed 8 2 0 ++ spoilt 8 0x35 ++ 0 ∷ attemptsOf 1) gives 2 ∷ 3 ∷ 4 ∷ 5 ∷ [])
+    -- "Bad parity is NAK at control, length", and stops the frame there
+    ∷ (eventsIn receiver asSlave (from525 ++ spoilt 4 0xF) gives 2 ∷ 8 ∷ [])
+    ∷ (eventsIn receiver asSlave (from525 ++ closed 4 0xF 0 ++ spoilt 8 1) gives 2 ∷ 3 ∷ [])
+    ∷ (eventsIn receiver asSlave (from525 ++ closed 4 0xF 0 ++ spoilt 8 1 ++ 1 ∷ []) gives 2 ∷ 3 ∷ 8 ∷ [])
     -- "a repeated byte is an attempt"
     ∷ (suc (slotsTaken asSlave (from525 ++ closed 4 0xF 0 ++ closed 8 1 0 ++ spoiltAttempts 20)) ∷ []
     gives 205 ∷ [])
@@ -219,9 +230,14 @@ slaveCases =
     gives released 54)
     ∷ (eventsIn receiver asSlave (toAll 0x1FF) gives 2 ∷ [])
     ∷ (eventsIn receiver asSlave (toAll 0xF23) gives 2 ∷ 8 ∷ [])
-    -- "A broadcast is taken only with AH, BH, EH, FH"; "bad parity in any field ends it", with P
+    -- "A broadcast is taken only with AH, BH, EH, FH"
     ∷ (stayedIn (slaveOf true true false) (frameAfter receiver asSlave (toAll 0xFFF)) 16
-    gives 1 ∷ 1 ∷ 0 ∷ 0 ∷ 1 ∷ 1 ∷ 0 ∷ 0 ∷ 0 ∷ 0 ∷ 0 ∷ 0 ∷ 0 ∷ 0 ∷ 0 ∷ 0 ∷ [])
+    gives 1 ∷ 1 ∷ 0 ∷ 0 ∷ 1 ∷ 1 ∷ many 10 0)
+    -- "A locked unit passes over broadcasts of others than the holder"
+    ∷ (stayedIn (slaveOf true true true) (frameAfter receiver asSlave (toAll 0xFFF)) 16
+    gives 1 ∷ 1 ∷ 0 ∷ 0 ∷ 1 ∷ 1 ∷ many 10 0)
+    ∷ (stayedIn (slaveOf true true true) (frameAfter receiver asSlave (broadcastOf 0x111 0xFFF)) 16 gives many 16 0)
+    -- "bad parity in any field ends it", with P
     ∷ (eventsIn receiver asSlave (toAll 0xFFF ++ closed 4 0xF 1 ++ spoilt 8 1) gives 2 ∷ 3 ∷ 8 ∷ [])
     ∷ (eventsIn receiver asSlave (toAll 0xFFF ++ closed 4 0xF 1 ++ closed 8 1 1 ++ spoilt 8 0x35)
     gives 2 ∷ 3 ∷ 4 ∷ 8 ∷ [])
@@ -260,9 +276,14 @@ masterCases =
     (1 ∷ field 12 0x023 ++ closed 12 0x123 0 ++ closed 4 0xF 0 ++ closed 8 1 0 ++ closed 8 0x35 0)
     gives 1 ∷ 2 ∷ 3 ∷ 4 ∷ 6 ∷ [])
     ∷ (eventsIn (masterOf456 0x123 true 0xF) asMaster (0 ∷ []) gives 1 ∷ [])
-    -- "The same reading later in the master's own bits aborts": in P, and in the slave address
+    -- "The same reading later in the master's own bits aborts": in P, in the slave address and its P, in control, in a
+    -- byte
     ∷ (eventsIn (masterOf456 0x525 true 0xF) asMaster (1 ∷ spoilt 12 0x525) gives 8 ∷ [])
     ∷ (eventsIn (masterOf456 0x123 true 0xF) asMaster (1 ∷ field 12 0x123 ++ 0 ∷ 0 ∷ []) gives 2 ∷ 8 ∷ [])
+    ∷ (eventsIn (masterOf456 0x123 true 0xF) asMaster (1 ∷ field 12 0x123 ++ spoilt 12 0x456) gives 2 ∷ 8 ∷ [])
+    ∷ (eventsIn (masterOf456 0x123 true 0xF) asMaster (1 ∷ field 12 0x123 ++ closed 12 0x456 0 ++ 0 ∷ [])
+    gives 2 ∷ 8 ∷ [])
+    ∷ (eventsIn (masterOf456 0x123 true 0xF) writing (closed 8 0x35 0 ++ 0 ∷ 0 ∷ 0 ∷ []) gives 4 ∷ 8 ∷ [])
     -- a master that reads gives the ACK after length and data
     ∷ (drivenIn (masterOf456 0x123 true 0x3) asMaster
     (1 ∷ field 12 0x123 ++ closed 12 0x456 0 ++ closed 4 0x3 0 ++ closed 8 1 0 ++ closed 8 0x35 0)

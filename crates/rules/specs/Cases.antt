@@ -182,22 +182,29 @@ stranger6 = lockTaken ++ header 0x111 0x123 0x6 1 ++ 3 ∷ []
 abbrev pub holder6 : List ℕ
 holder6 = stranger6 ++ exchange 0x525 0x123 0x6 1 (0x96 ∷ [])
 
--- a request of 123H with one retry that loses against 023H, whose frame is for it
-abbrev pub asksWithRetry : List ℕ
-asksWithRetry = write 0xE 1 ∷ write 0xE 0xAA ∷ write 0x1 0x08 ∷ []
+-- a request of 123H with one retry that loses against 023H, whose frame is for it; and with none
+abbrev pub asksAnew : List ℕ
+asksAnew = write 0xE 1 ∷ write 0xE 0xAA ∷ write 0x1 0x08 ∷ []
 
-abbrev pub contender : List ℕ
-contender = setUp ++ write 0x0 0x10 ∷ to456 0x9F ++ asksWithRetry
+abbrev pub contender : ℕ → List ℕ
+contender mcr = setUp ++ write 0x0 0x10 ∷ to456 mcr ++ asksAnew
 
 abbrev pub loss : List ℕ
-loss = contender ++ 3 ∷ exchange 0x023 0x123 0xF 1 (0x42 ∷ [])
+loss = contender 0x9F ++ 3 ∷ exchange 0x023 0x123 0xF 1 (0x42 ∷ [])
 
--- "After the first attempt and MCR's retries all lost, the request is aborted"; the next one has its own retry
+abbrev pub lastLoss : List ℕ
+lastLoss = contender 0x8F ++ 3 ∷ exchange 0x023 0x123 0xF 1 (0x42 ∷ [])
+
+-- "After the first attempt and MCR's retries all lost, the request is aborted"; the next one has its own retries
+abbrev pub lost : ℕ → List ℕ
+lost zero = []
+lost (suc n) = 2 ∷ 1 ∷ field 12 0x023 ++ lost n
+
 abbrev pub lostTwice : List ℕ
-lostTwice = loss ++ 2 ∷ 1 ∷ field 12 0x023
+lostTwice = loss ++ lost 1
 
 abbrev pub lostAnew : List ℕ
-lostAnew = lostTwice ++ 3 ∷ asksWithRetry ++ 2 ∷ 1 ∷ field 12 0x023
+lostAnew = lostTwice ++ 3 ∷ asksAnew ++ lost 1
 
 -- a read request made while RBF has bytes: it holds back, so that the frame of 023H neither beats nor aborts it
 abbrev pub heldBack : List ℕ
@@ -227,6 +234,22 @@ group = setUp ++ write 0x0 0x10 ∷ toAll 0x525 0x1FF 0xF 1
 abbrev pub general : List ℕ
 general = setUp ++ write 0x0 0x10 ∷ toAll 0x525 0xFFF 0xB 2 ++ answered 8 0x77 1 ++ 3 ∷ []
 
+-- "Master sending starts with the P slot of its own address"; its length says 2, and one byte is there
+abbrev pub masterStarts : ℕ → List ℕ
+masterStarts mcr =
+    setUp ++ to456 mcr ++ write 0xE 2 ∷ write 0xE 0xAA ∷ write 0x1 0x08 ∷ 2 ∷ 1 ∷ field 12 0x123
+
+abbrev pub masterWants : List ℕ
+masterWants = masterStarts 0x8F ++ answered 12 0x456 0 ++ answered 4 0xF 0 ++ answered 8 2 0
+
+-- "At most 16 attempts": of 17 bytes 16 are stored, and BH has not all ACKed
+abbrev pub acked : ℕ → List ℕ
+acked zero = []
+acked (suc n) = answered 8 0x35 0 ++ acked n
+
+abbrev pub tooLong : List ℕ
+tooLong = setUp ++ write 0x0 0x10 ∷ header 0x525 0x123 0xB 0 ++ answered 8 17 0 ++ acked 16
+
 -- ---- the lock
 
 -- it outlasts a complete EH and a complete FH of the holder, and those that break off
@@ -241,6 +264,13 @@ outlastedBroken = lockTaken ++ readOut ++ brokenOff 0x525 0xE ++ readOut ++ brok
 -- and an EH or FH that breaks off takes none
 abbrev pub noneTaken : List ℕ
 noneTaken = setUp ++ write 0x0 0x10 ∷ brokenOff 0x525 0xE ++ readOut ++ brokenOff 0x525 0xF
+
+-- 7H that breaks off takes none either, and 6H whose byte is not ACKed ends none
+abbrev pub ranEmpty7 : List ℕ
+ranEmpty7 = offered ++ header 0x525 0x123 0x7 0 ++ answered 8 3 0 ++ answered 8 0x11 0
+
+abbrev pub unheard6 : List ℕ
+unheard6 = lockTaken ++ header 0x525 0x123 0x6 0 ++ answered 8 1 0 ++ answered 8 0x96 1 ++ 3 ∷ []
 
 -- ended by the holder, it is taken by AH of another master
 abbrev pub takenAnew : List ℕ
@@ -279,6 +309,14 @@ from525 = 2 ∷ 1 ∷ field 12 0x525
 abbrev pub readAll : List ℕ
 readAll = read 0x0 ∷ read 0x1 ∷ read 0x2 ∷ read 0x3 ∷ read 0x4 ∷ read 0x5 ∷ read 0x8 ∷ read 0xE ∷ []
 
+-- words refused by 1 to 4, "kind not 0, 1, 2", "an unnamed bit is set", "register not in the list for that direction",
+-- "value not listed", and by 6 "with MARQ"
+abbrev pub turnedDown : List ℕ
+turnedDown =
+    0x3000_0000 ∷ 4 ∷ 0x1080_0008 ∷ 0x2000_0001 ∷ write 0x7 0x00 ∷ read 0x6 ∷ write 0x0 0x01 ∷ write 0x1 0x00
+    ∷ write 0x2 0x04 ∷ write 0x4 0x01 ∷ write 0x6 0x81 ∷ write 0x6 0x03 ∷ write 0x4 0x70 ∷ write 0x5 0x56
+    ∷ write 0x6 0x9A ∷ write 0x1 0x08 ∷ write 0x1 0x0B ∷ write 0x2 0x40 ∷ write 0x3 0x34 ∷ []
+
 -- so many bytes for TBF
 abbrev pub filled : ℕ → List ℕ
 filled zero = []
@@ -304,12 +342,20 @@ unitCases =
     ∷ (story stranger6 gives 15 ∷ 7 ∷ 0 ∷ 0 ∷ 0 ∷ 1 ∷ 0x525 ∷ 0 ∷ 4 ∷ [])
     ∷ (story holder6 gives 15 ∷ 7 ∷ 0 ∷ 0 ∷ 0 ∷ 0 ∷ 0 ∷ 0 ∷ 4 ∷ [])
     ∷ (story loss gives 15 ∷ 6 ∷ 1 ∷ 0 ∷ 0 ∷ 0 ∷ 0 ∷ 0 ∷ 4 ∷ 1 ∷ 0xAA ∷ [])
+    ∷ (story lastLoss gives 3 ∷ 6 ∷ 0 ∷ 0 ∷ 0 ∷ 0 ∷ 0 ∷ 0 ∷ 4 ∷ [])
     ∷ (story lostTwice gives 3 ∷ 6 ∷ 0 ∷ 0 ∷ 0 ∷ 0 ∷ 0 ∷ 0 ∷ 4 ∷ [])
     ∷ (story lostAnew gives 3 ∷ 6 ∷ 1 ∷ 0 ∷ 0 ∷ 0 ∷ 0 ∷ 0 ∷ 4 ∷ 1 ∷ 0xAA ∷ [])
+    ∷ (story (contender 0xFF ++ lost 7) gives 15 ∷ 15 ∷ 1 ∷ 0 ∷ 1 ∷ 0 ∷ 0 ∷ 0 ∷ 0 ∷ 1 ∷ 0xAA ∷ [])
+    ∷ (story (contender 0xFF ++ lost 8) gives 3 ∷ 15 ∷ 0 ∷ 0 ∷ 1 ∷ 0 ∷ 0 ∷ 0 ∷ 0 ∷ [])
     ∷ (received loss gives 0x02 ∷ 0x3F ∷ 0x01 ∷ 0x42 ∷ [])
     ∷ (story heldBack gives 15 ∷ 6 ∷ 1 ∷ 0 ∷ 0 ∷ 0 ∷ 0 ∷ 0 ∷ 5 ∷ [])
     ∷ (story thirdFrame gives 15 ∷ 6 ∷ 0 ∷ 0 ∷ 0 ∷ 0 ∷ 0 ∷ 0 ∷ 5 ∷ [])
     ∷ (received thirdFrame gives 0x52 ∷ 0x5F ∷ 0x02 ∷ 0xA7 ∷ 0x5B ∷ [])
+    ∷ (story (masterStarts 0x8F) gives 0 ∷ 15 ∷ 1 ∷ 0 ∷ 0 ∷ 0 ∷ 0 ∷ 0 ∷ 0 ∷ 2 ∷ 0xAA ∷ [])
+    ∷ (story (masterStarts 0x83) gives 15 ∷ 15 ∷ 1 ∷ 0 ∷ 0 ∷ 0 ∷ 0 ∷ 0 ∷ 0 ∷ 2 ∷ 0xAA ∷ [])
+    ∷ (story masterWants gives 1 ∷ 15 ∷ 1 ∷ 0 ∷ 0 ∷ 0 ∷ 0 ∷ 0 ∷ 0 ∷ [])
+    ∷ (story (masterWants ++ answered 8 0xAA 0) gives 3 ∷ 15 ∷ 0 ∷ 0 ∷ 0 ∷ 0 ∷ 0 ∷ 0 ∷ 0 ∷ [])
+    ∷ (story tooLong gives 15 ∷ 7 ∷ 0 ∷ 0 ∷ 0 ∷ 1 ∷ 0x525 ∷ 0 ∷ 19 ∷ [])
     ∷ (story cleared gives 15 ∷ 6 ∷ 0 ∷ 0 ∷ 0 ∷ 0 ∷ 0 ∷ 0 ∷ 4 ∷ [])
     ∷ (story length256 gives 15 ∷ 7 ∷ 0 ∷ 0 ∷ 0 ∷ 0 ∷ 0 ∷ 0 ∷ 4 ∷ [])
     ∷ (received length256 gives 0x52 ∷ 0x5F ∷ 0x00 ∷ 0x42 ∷ [])
@@ -319,6 +365,8 @@ unitCases =
     ∷ (story outlasted gives 15 ∷ 6 ∷ 0 ∷ 0 ∷ 0 ∷ 1 ∷ 0x525 ∷ 0 ∷ 4 ∷ [])
     ∷ (story outlastedBroken gives 15 ∷ 7 ∷ 0 ∷ 0 ∷ 0 ∷ 1 ∷ 0x525 ∷ 0 ∷ 4 ∷ [])
     ∷ (story noneTaken gives 15 ∷ 7 ∷ 0 ∷ 0 ∷ 0 ∷ 0 ∷ 0 ∷ 0 ∷ 4 ∷ [])
+    ∷ (story ranEmpty7 gives 15 ∷ 3 ∷ 0 ∷ 0 ∷ 0 ∷ 0 ∷ 0 ∷ 0 ∷ 0 ∷ [])
+    ∷ (story unheard6 gives 15 ∷ 7 ∷ 0 ∷ 0 ∷ 0 ∷ 1 ∷ 0x525 ∷ 0 ∷ 4 ∷ [])
     ∷ (story takenAnew gives 15 ∷ 7 ∷ 0 ∷ 0 ∷ 0 ∷ 1 ∷ 0x111 ∷ 0 ∷ 4 ∷ [])
     ∷ []
 
@@ -328,14 +376,20 @@ drivenCases =
     -- "A is 0 for ACK"; "bad parity is NAK at .. data"
     (answering (setUp ++ write 0x0 0x10 ∷ []) comesAgain
     gives taken (asSlave (heard 4 0 ++ heard 8 0 ++ heard 8 1 ++ heard 8 0)))
-    -- "only with SLRE set"
+    -- "only with SLRE set and RBF empty"
     ∷ (answering setUp (header 0x525 0x123 0xF 1 ++ 3 ∷ []) gives taken (asSlave (heard 4 1)))
+    ∷ (answering (reception ++ write 0x0 0x10 ∷ []) (header 0x525 0x123 0xF 1 ++ 3 ∷ [])
+    gives taken (asSlave (heard 4 1)))
     -- "3H, 7H: .. length and bytes from TBF"; "NAK after data repeats the byte"
     ∷ (answering twoOffered twoSent
     gives taken (asSlave (heard 4 0 ++ answered 8 2 1 ++ answered 8 0x11 1 ++ answered 8 0x11 1 ++ answered 8 0x22 1)))
     ∷ (story (twoOffered ++ twoSent) gives 15 ∷ 2 ∷ 0 ∷ 0 ∷ 0 ∷ 0 ∷ 0 ∷ 0 ∷ 0 ∷ [])
-    -- "With MARQ set and idle as the latest slot, the unit drives start"
-    ∷ (answering (asksToWrite 0x8F) (3 ∷ exchange 0x123 0x456 0xF 2 (0xAA ∷ 0xBB ∷ []))
+    -- "slave sending at control ACK"; the last byte leaves TBF, and none is wanted
+    ∷ (story (twoOffered ++ header 0x525 0x123 0x7 0) gives 15 ∷ 0 ∷ 0 ∷ 1 ∷ 0 ∷ 0 ∷ 0 ∷ 0 ∷ 0 ∷ 0x11 ∷ 0x22 ∷ [])
+    ∷ (story (twoOffered ++ header 0x525 0x123 0x7 0 ++ answered 8 2 0 ++ answered 8 0x11 0)
+    gives 15 ∷ 0 ∷ 0 ∷ 1 ∷ 0 ∷ 0 ∷ 0 ∷ 0 ∷ 0 ∷ [])
+    -- "With MARQ set and idle as the latest slot, the unit drives start"; "A refusal changes no state"
+    ∷ (answering (asksToWrite 0x8F ++ turnedDown) (3 ∷ exchange 0x123 0x456 0xF 2 (0xAA ∷ 0xBB ∷ []))
     gives taken (asMaster 1 0xF (answered 8 2 1 ++ answered 8 0xAA 1 ++ answered 8 0xBB 1)))
     ∷ (answering asksToRead (3 ∷ exchange 0x123 0x456 0x3 1 (0x77 ∷ []))
     gives taken (asMaster 1 0x3 (heard 8 0 ++ heard 8 0)))
@@ -343,13 +397,17 @@ drivenCases =
     ∷ (answering (asksToWrite 0x0F) (3 ∷ toAll 0x123 0x456 0xF 2 ++ answered 8 0xAA 1 ++ answered 8 0xBB 1 ++ 3 ∷ [])
     gives taken (asMaster 0 0xF (answered 8 2 1 ++ answered 8 0xAA 1 ++ answered 8 0xBB 1)))
     -- "the unit goes on as a receiver of that frame", and tries again after it
-    ∷ (answering contender (3 ∷ exchange 0x023 0x123 0xF 1 (0x42 ∷ []))
+    ∷ (answering (contender 0x9F) (3 ∷ exchange 0x023 0x123 0xF 1 (0x42 ∷ []))
     gives taken
     (2 ∷ 1 ∷ 0 ∷ 0 ∷ 0 ∷ 1 ∷ released 9 ++ heard 12 0 ++ heard 4 0 ++ heard 8 0 ++ heard 8 0 ++ 1 ∷ 2 ∷ []))
     -- "NAK after slave address .. aborts"; so do two starts
     ∷ (story (asksToWrite 0x8F ++ 2 ∷ 1 ∷ field 12 0x123 ++ answered 12 0x456 1)
     gives 3 ∷ 15 ∷ 0 ∷ 0 ∷ 0 ∷ 0 ∷ 0 ∷ 0 ∷ 0 ∷ [])
     ∷ (story (asksToWrite 0x83 ++ 2 ∷ 2 ∷ []) gives 7 ∷ 15 ∷ 0 ∷ 0 ∷ 0 ∷ 0 ∷ 0 ∷ 0 ∷ 0 ∷ 2 ∷ 0xAA ∷ 0xBB ∷ [])
+    -- a request made after the start slot outlives that frame; one that holds back drives start once RBF is empty
+    ∷ (answering (setUp ++ to456 0x8F ++ filled 2 ++ 2 ∷ write 0x1 0x08 ∷ 1 ∷ []) (3 ∷ []) gives taken (2 ∷ []))
+    ∷ (answering heldBack (3 ∷ read 0xE ∷ read 0xE ∷ read 0xE ∷ read 0xE ∷ read 0xE ∷ [])
+    gives taken (1 ∷ []) ++ values (0x52 ∷ 0x5F ∷ 0x02 ∷ 0xA5 ∷ []) ++ 0xA000_025A ∷ [])
     -- "0H, 6H: length 1 and the status byte. 4H, 5H: .. the holder's low 8 bits, or its high 4 bits"
     ∷ (answering lockTaken
     (exchange 0x111 0x123 0x0 1 (0x96 ∷ []) ++ exchange 0x111 0x123 0x4 1 (0x25 ∷ [])
@@ -385,13 +443,9 @@ registerCases =
     -- "FLG (MARQ, STRQ, SLRE in bits 6-4)", "idle not seen", and what is driven after host words and a level
     ∷ (answering (asksToRead ++ write 0x0 0x10 ∷ []) (read 0x1 ∷ 3 ∷ read 0x1 ∷ 1 ∷ read 0x1 ∷ [])
     gives 0xA000_0150 ∷ 0x8000_0200 ∷ 0xA000_0250 ∷ 0x8000_0100 ∷ 0xA000_0150 ∷ [])
-    ∷ (answering (twoOffered ++ write 0x0 0x10 ∷ []) (read 0x1 ∷ []) gives values (0x30 ∷ []))
-    -- 1 to 4: "kind not 0, 1, 2", "an unnamed bit is set", "register not in the list", "value not listed"; 6: "with
-    -- MARQ"
-    ∷ (answering (asksToWrite 0x8F)
-    (0x3000_0000 ∷ 4 ∷ 0x1080_0008 ∷ 0x2000_0001 ∷ write 0x7 0 ∷ read 0x6 ∷ write 0x0 0x01 ∷ write 0x1 0x00
-    ∷ write 0x2 0x04 ∷ write 0x4 0x01 ∷ write 0x6 0x81 ∷ write 0x6 0x03 ∷ write 0x4 0x60 ∷ write 0x5 0x45
-    ∷ write 0x6 0x8F ∷ write 0x1 0x08 ∷ write 0x1 0x0B ∷ write 0x2 0x32 ∷ write 0x3 0x12 ∷ [])
+    ∷ (answering (twoOffered ++ write 0x0 0x10 ∷ write 0x0 0x00 ∷ []) (read 0x1 ∷ write 0x1 0x0F ∷ read 0x1 ∷ [])
+    gives 0xA000_0130 ∷ 0x9000_0100 ∷ 0xA000_0120 ∷ [])
+    ∷ (answering (asksToWrite 0x8F) turnedDown
     gives refusals (1 ∷ 2 ∷ 2 ∷ 2 ∷ 3 ∷ 3 ∷ 4 ∷ 4 ∷ 4 ∷ 4 ∷ 4 ∷ 4 ∷ 6 ∷ 6 ∷ 6 ∷ 6 ∷ 6 ∷ 6 ∷ 6 ∷ []))
     -- 5, "level 1 while the unit drives 0": it is no slot, and the ACK is still given
     ∷ (answering (setUp ++ from525 ++ field 12 0x123) (1 ∷ 0 ∷ []) gives 0xF000_0005 ∷ 0x8000_0100 ∷ [])
