@@ -30,7 +30,7 @@ use Rattle.rules.specs.Endings as endings
 use Rattle.rules.specs.Slots as slots
 use Rattle.rules.specs.Registers as registers
 use Rattle.rules.specs.Step as step
-use Rattle.rules.specs.Cases.{answered, exchange, header, lockTaken, read, readOut}
+use Rattle.rules.specs.Stories.{answered, exchange, header, lockTaken, read, readOut}
 use Rattle.rules.specs.Machine.{observed, unit}
 use Rattle.rules.proofs.Protects.{holds}
 

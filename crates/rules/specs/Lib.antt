@@ -7,4 +7,5 @@ pub mod Registers
 pub mod Step
 pub mod Refusals
 pub mod Machine
+pub mod Stories
 pub mod Cases

@@ -1,0 +1,306 @@
+-- Whole lists of words, as the stories of `Cases.antt` tell them, and what is looked at after them.
+use mathlib.Core.List.{List, [], _∷_, _++_}
+use Prim.Native.Nat.{ℕ, zero, suc, _+_, _*_, _-_}
+use Rattle.line.specs.Choice.{bitOf}
+use Rattle.line.specs.Parity as parity
+use Rattle.place.specs.Cases.{field}
+use Rattle.isolation.specs.Runs.{run, answers}
+use Rattle.rules.specs.State.{State, reset}
+use Rattle.rules.specs.Machine.{unit}
+
+-- ---- words
+
+-- a register write, and a read
+abbrev pub write : ℕ → ℕ → ℕ
+write register value = 0x1000_0000 + register * 0x0100_0000 + value
+
+abbrev pub read : ℕ → ℕ
+read register = 0x2000_0000 + register * 0x0100_0000
+
+-- a field with its P and a level in its A slot
+abbrev pub answered : ℕ → ℕ → ℕ → List ℕ
+answered width value a = field width value ++ a ∷ []
+
+-- the same with a wrong P
+abbrev pub spoilt : ℕ → ℕ → ℕ → List ℕ
+spoilt width value a = parity.levelsOf width value ++ (1 - parity.parityOf value) ∷ a ∷ []
+
+-- bytes that are all ACKed
+abbrev pub bytes : List ℕ → List ℕ
+bytes [] = []
+bytes (b ∷ bs) = answered 8 b 0 ++ bytes bs
+
+-- a frame up to its control, from the start slot on, with the level after the control
+abbrev pub header : ℕ → ℕ → ℕ → ℕ → List ℕ
+header master slave control a = 2 ∷ 1 ∷ field 12 master ++ answered 12 slave 0 ++ answered 4 control a
+
+-- a whole individual frame in which all is ACKed, and the idle slot that closes it
+abbrev pub exchange : ℕ → ℕ → ℕ → ℕ → List ℕ → List ℕ
+exchange master slave control length text =
+    header master slave control 0 ++ answered 8 length 0 ++ bytes text ++ 3 ∷ []
+
+-- one that breaks off after a byte of two
+abbrev pub brokenOff : ℕ → ℕ → List ℕ
+brokenOff master control = header master 0x123 control 0 ++ answered 8 2 0 ++ answered 8 0x99 0 ++ 3 ∷ []
+
+-- a broadcast up to its length: nobody gives an ACK
+abbrev pub toAll : ℕ → ℕ → ℕ → ℕ → List ℕ
+toAll master slave control length =
+    2 ∷ 0 ∷ field 12 master ++ answered 12 slave 1 ++ answered 4 control 1 ++ answered 8 length 1
+
+-- a unit with the address 123H, sending enabled, after reset
+abbrev pub setUp : List ℕ
+setUp = write 0x2 0x32 ∷ write 0x3 0x12 ∷ []
+
+-- what is seen after some words: MARC, SLRC, MARQ, STRQ, SLRE, whether locked and to whom, RDR1 and RDR2; then the
+-- buffers
+abbrev pub seenAfter : State → List ℕ
+seenAfter s =
+    s .core .regs .marc ∷ s .core .regs .slrc ∷ bitOf (s .core .regs .marq) ∷ bitOf (s .core .regs .strq)
+    ∷ bitOf (s .core .regs .slre) ∷ bitOf (s .core .regs .locked) ∷ s .core .regs .holder ∷ s .core .regs .rdr1
+    ∷ s .core .regs .rdr2 ∷ []
+
+abbrev pub story : List ℕ → List ℕ
+story words = seenAfter (run unit reset words) ++ run unit reset words .tbf
+
+abbrev pub received : List ℕ → List ℕ
+received words = run unit reset words .rbf
+
+-- ---- answers
+
+-- the answers to some words that come after others
+abbrev pub answering : List ℕ → List ℕ → List ℕ
+answering before words = answers unit (run unit reset before) words
+
+-- slots taken, each with what is driven after it: 0, 1 (released) or 2 (start)
+abbrev pub taken : List ℕ → List ℕ
+taken [] = []
+taken (d ∷ ds) = (0x8000_0000 + d * 0x100) ∷ taken ds
+
+-- values read, with the line released, and words refused
+abbrev pub values : List ℕ → List ℕ
+values [] = []
+values (v ∷ vs) = (0xA000_0100 + v) ∷ values vs
+
+abbrev pub refusals : List ℕ → List ℕ
+refusals [] = []
+refusals (n ∷ ns) = (0xF000_0000 + n) ∷ refusals ns
+
+-- so many slots in which the line is released
+abbrev pub released : ℕ → List ℕ
+released zero = []
+released (suc n) = 1 ∷ released n
+
+-- what is driven in a field of another's: nothing, and a level in its A slot
+abbrev pub heard : ℕ → ℕ → List ℕ
+heard width a = released width ++ 1 ∷ a ∷ []
+
+-- what the slave 123H drives after the start slot: an ACK of its address, the rest, and nothing more
+abbrev pub asSlave : List ℕ → List ℕ
+asSlave rest = released 14 ++ heard 12 0 ++ rest ++ released 2
+
+-- "length 1 and the status byte", or another byte of its own
+abbrev pub tells : ℕ → List ℕ
+tells byte = asSlave (heard 4 0 ++ answered 8 1 1 ++ answered 8 byte 1)
+
+-- what the master 123H drives after the idle slot: start, broadcast bit, its address, 456H, control and the rest
+abbrev pub asMaster : ℕ → ℕ → List ℕ → List ℕ
+asMaster bit control rest =
+    2 ∷ bit ∷ field 12 0x123 ++ answered 12 0x456 1 ++ answered 4 control 1 ++ rest ++ released 2
+
+-- ---- the stories
+
+-- a reception of FH with two bytes
+abbrev pub reception : List ℕ
+reception = setUp ++ write 0x0 0x10 ∷ 3 ∷ exchange 0x525 0x123 0xF 2 (0xA5 ∷ 0x5A ∷ [])
+
+-- the slave address 456H, and MCR
+abbrev pub to456 : ℕ → List ℕ
+to456 mcr = write 0x4 0x60 ∷ write 0x5 0x45 ∷ write 0x6 mcr ∷ []
+
+-- a master write of two bytes to 456H
+abbrev pub asksToWrite : ℕ → List ℕ
+asksToWrite mcr =
+    setUp ++ to456 mcr ++ write 0xE 2 ∷ write 0xE 0xAA ∷ write 0xE 0xBB ∷ write 0x1 0x08 ∷ []
+
+abbrev pub masterWrite : List ℕ
+masterWrite = asksToWrite 0x8F ++ 3 ∷ exchange 0x123 0x456 0xF 2 (0xAA ∷ 0xBB ∷ [])
+
+-- a master read of one byte from 456H, with 3H; the two bytes in TBF stay there
+abbrev pub asksToRead : List ℕ
+asksToRead = setUp ++ to456 0x83 ++ write 0xE 2 ∷ write 0xE 0xAA ∷ write 0x1 0x08 ∷ []
+
+abbrev pub masterRead : List ℕ
+masterRead = asksToRead ++ 3 ∷ exchange 0x123 0x456 0x3 1 (0x77 ∷ [])
+
+-- slave sending with 3H: the length says 3, one byte is there, so more is wanted when it is drawn, and it aborts at
+-- its ACK
+abbrev pub offered : List ℕ
+offered = setUp ++ write 0xE 3 ∷ write 0xE 0x11 ∷ write 0x1 0x0B ∷ 3 ∷ []
+
+abbrev pub wanted : List ℕ
+wanted = offered ++ header 0x525 0x123 0x3 0 ++ answered 8 3 0
+
+abbrev pub ranEmpty : List ℕ
+ranEmpty = wanted ++ answered 8 0x11 0 ++ 3 ∷ []
+
+-- 3H whose length is NAKed: the sending is aborted, and nothing is locked
+abbrev pub lengthNak : List ℕ
+lengthNak = offered ++ header 0x525 0x123 0x3 0 ++ answered 8 3 1 ++ 3 ∷ []
+
+-- BH cut after one byte of two, then read out and completed
+abbrev pub lockTaken : List ℕ
+lockTaken = setUp ++ write 0x0 0x10 ∷ 3 ∷ brokenOff 0x525 0xB
+
+abbrev pub readOut : List ℕ
+readOut = read 0xE ∷ read 0xE ∷ read 0xE ∷ read 0xE ∷ write 0x0 0x10 ∷ []
+
+abbrev pub lockCompleted : List ℕ
+lockCompleted = lockTaken ++ readOut ++ exchange 0x525 0x123 0xB 1 (0x98 ∷ [])
+
+-- 6H of a stranger is NAK; of the holder it reads the status, which still shows the lock, and unlocks
+abbrev pub stranger6 : List ℕ
+stranger6 = lockTaken ++ header 0x111 0x123 0x6 1 ++ 3 ∷ []
+
+abbrev pub holder6 : List ℕ
+holder6 = stranger6 ++ exchange 0x525 0x123 0x6 1 (0x96 ∷ [])
+
+-- a request of 123H with one retry that loses against 023H, whose frame is for it; and with none
+abbrev pub asksAnew : List ℕ
+asksAnew = write 0xE 1 ∷ write 0xE 0xAA ∷ write 0x1 0x08 ∷ []
+
+abbrev pub contender : ℕ → List ℕ
+contender mcr = setUp ++ write 0x0 0x10 ∷ to456 mcr ++ asksAnew
+
+abbrev pub loss : List ℕ
+loss = contender 0x9F ++ 3 ∷ exchange 0x023 0x123 0xF 1 (0x42 ∷ [])
+
+abbrev pub lastLoss : List ℕ
+lastLoss = contender 0x8F ++ 3 ∷ exchange 0x023 0x123 0xF 1 (0x42 ∷ [])
+
+-- "After the first attempt and MCR's retries all lost, the request is aborted"; the next one has its own retries
+abbrev pub lost : ℕ → List ℕ
+lost zero = []
+lost (suc n) = 2 ∷ 1 ∷ field 12 0x023 ++ lost n
+
+abbrev pub lostTwice : List ℕ
+lostTwice = loss ++ lost 1
+
+abbrev pub lostAnew : List ℕ
+lostAnew = lostTwice ++ 3 ∷ asksAnew ++ lost 1
+
+-- a read request made while RBF has bytes: it holds back, so that the frame of 023H neither beats nor aborts it
+abbrev pub heldBack : List ℕ
+heldBack = reception ++ to456 0x83 ++ write 0x1 0x08 ∷ 3 ∷ exchange 0x023 0x456 0xF 1 (0x42 ∷ [])
+
+-- the first reception read out, and a second frame and a third like it: none is deaf later
+abbrev pub again : ℕ → List ℕ
+again byte = read 0xE ∷ readOut ++ exchange 0x525 0x123 0xF 2 (byte ∷ 0x5B ∷ [])
+
+abbrev pub thirdFrame : List ℕ
+thirdFrame = reception ++ again 0xA6 ++ again 0xA7
+
+-- "0FH clear SLRE, a reception whose control was accepted going on"
+abbrev pub cleared : List ℕ
+cleared =
+    setUp ++ write 0x0 0x10 ∷ 2 ∷ 1 ∷ field 12 0x525 ++ answered 12 0x123 0 ++ field 4 0xF ++ write 0x1 0x0F ∷ 0
+    ∷ answered 8 1 0 ++ answered 8 0x42 0
+
+-- "length 00H means 256": one byte is not all of it
+abbrev pub length256 : List ℕ
+length256 = setUp ++ write 0x0 0x10 ∷ header 0x525 0x123 0xF 0 ++ answered 8 0 0 ++ answered 8 0x42 0 ++ 3 ∷ []
+
+-- a group broadcast, of one byte, and a BH to all that breaks off: "broadcasts do neither"
+abbrev pub group : List ℕ
+group = setUp ++ write 0x0 0x10 ∷ toAll 0x525 0x1FF 0xF 1
+
+abbrev pub general : List ℕ
+general = setUp ++ write 0x0 0x10 ∷ toAll 0x525 0xFFF 0xB 2 ++ answered 8 0x77 1 ++ 3 ∷ []
+
+-- "Master sending starts with the P slot of its own address"; its length says 2, and one byte is there
+abbrev pub masterStarts : ℕ → List ℕ
+masterStarts mcr =
+    setUp ++ to456 mcr ++ write 0xE 2 ∷ write 0xE 0xAA ∷ write 0x1 0x08 ∷ 2 ∷ 1 ∷ field 12 0x123
+
+abbrev pub masterWants : List ℕ
+masterWants = masterStarts 0x8F ++ answered 12 0x456 0 ++ answered 4 0xF 0 ++ answered 8 2 0
+
+-- "At most 16 attempts": of 17 bytes 16 are stored, and BH has not all ACKed
+abbrev pub acked : ℕ → List ℕ
+acked zero = []
+acked (suc n) = answered 8 0x35 0 ++ acked n
+
+abbrev pub tooLong : List ℕ
+tooLong = setUp ++ write 0x0 0x10 ∷ header 0x525 0x123 0xB 0 ++ answered 8 17 0 ++ acked 16
+
+-- ---- the lock
+
+-- it outlasts a complete EH and a complete FH of the holder, and those that break off
+abbrev pub outlasted : List ℕ
+outlasted =
+    lockTaken ++ readOut ++ exchange 0x525 0x123 0xE 1 (0x98 ∷ []) ++ readOut ++ exchange 0x525 0x123 0xF 1
+    (0x97 ∷ [])
+
+abbrev pub outlastedBroken : List ℕ
+outlastedBroken = lockTaken ++ readOut ++ brokenOff 0x525 0xE ++ readOut ++ brokenOff 0x525 0xF
+
+-- and an EH or FH that breaks off takes none
+abbrev pub noneTaken : List ℕ
+noneTaken = setUp ++ write 0x0 0x10 ∷ brokenOff 0x525 0xE ++ readOut ++ brokenOff 0x525 0xF
+
+-- 7H that breaks off takes none either, and 6H whose byte is not ACKed ends none
+abbrev pub ranEmpty7 : List ℕ
+ranEmpty7 = offered ++ header 0x525 0x123 0x7 0 ++ answered 8 3 0 ++ answered 8 0x11 0
+
+abbrev pub unheard6 : List ℕ
+unheard6 = lockTaken ++ header 0x525 0x123 0x6 0 ++ answered 8 1 0 ++ answered 8 0x96 1 ++ 3 ∷ []
+
+-- ended by the holder, it is taken by AH of another master
+abbrev pub takenAnew : List ℕ
+takenAnew = lockCompleted ++ readOut ++ brokenOff 0x111 0xA
+
+-- ---- what is driven
+
+-- a byte with a wrong P, which comes again
+abbrev pub comesAgain : List ℕ
+comesAgain = header 0x525 0x123 0xF 0 ++ answered 8 1 0 ++ spoilt 8 0x42 1 ++ answered 8 0x42 0 ++ 3 ∷ []
+
+-- an offer of two bytes, and their way to a master that gives NAK to the first at its first attempt
+abbrev pub twoOffered : List ℕ
+twoOffered = setUp ++ write 0xE 2 ∷ write 0xE 0x11 ∷ write 0xE 0x22 ∷ write 0x1 0x0B ∷ []
+
+abbrev pub twoSent : List ℕ
+twoSent =
+    header 0x525 0x123 0x7 0 ++ answered 8 2 0 ++ answered 8 0x11 1 ++ answered 8 0x11 0 ++ answered 8 0x22 0
+    ++ 3 ∷ []
+
+-- 0H behind the master address, up to the status byte; and so many NAKs for it
+abbrev pub statusAsked : List ℕ
+statusAsked = answered 12 0x123 0 ++ answered 4 0x0 0 ++ answered 8 1 0
+
+abbrev pub unheard : ℕ → List ℕ
+unheard zero = []
+unheard (suc n) = answered 8 0x90 1 ++ unheard n
+
+-- a frame's start and its master, before a slave is named
+abbrev pub from525 : List ℕ
+from525 = 2 ∷ 1 ∷ field 12 0x525
+
+-- ---- registers
+
+-- STR, FLG, RDR1, RDR2, LOR1, LOR2, RCR and RBF
+abbrev pub readAll : List ℕ
+readAll = read 0x0 ∷ read 0x1 ∷ read 0x2 ∷ read 0x3 ∷ read 0x4 ∷ read 0x5 ∷ read 0x8 ∷ read 0xE ∷ []
+
+-- words refused by 1 to 4, "kind not 0, 1, 2", "an unnamed bit is set", "register not in the list for that direction",
+-- "value not listed", and by 6 "with MARQ"
+abbrev pub turnedDown : List ℕ
+turnedDown =
+    0x3000_0000 ∷ 4 ∷ 0x1080_0008 ∷ 0x2000_0001 ∷ write 0x7 0x00 ∷ read 0x6 ∷ write 0x0 0x01 ∷ write 0x1 0x00
+    ∷ write 0x2 0x04 ∷ write 0x4 0x01 ∷ write 0x6 0x81 ∷ write 0x6 0x03 ∷ write 0x4 0x70 ∷ write 0x5 0x56
+    ∷ write 0x6 0x9A ∷ write 0x1 0x08 ∷ write 0x1 0x0B ∷ write 0x2 0x40 ∷ write 0x3 0x34 ∷ []
+
+-- so many bytes for TBF
+abbrev pub filled : ℕ → List ℕ
+filled zero = []
+filled (suc n) = write 0xE 0x55 ∷ filled n
