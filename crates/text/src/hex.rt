@@ -18,7 +18,7 @@ fn digit(n: u32) -> u8
 }
 
 // The word, a space, the answer and the line's end.
-pub fn line(word: u32, answer: u32) -> [u8; LINE_BYTES]
+pub(crate) fn line(word: u32, answer: u32) -> [u8; LINE_BYTES]
     ensures { λ r. ⌜ r ≡ lineOf word answer ⌝ }
 {
     [

@@ -15,7 +15,7 @@ pub enum Last {
 }
 
 // What the last line says of an input of so many bytes.
-pub fn last_line(bytes: usize) -> Last
+pub(crate) fn last_line(bytes: usize) -> Last
     ensures { λ r. ⌜ r ≡ lastOf bytes ⌝ }
 {
     if MOST_BYTES < bytes {
