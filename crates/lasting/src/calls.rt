@@ -4,7 +4,7 @@ ghost use Rattle.lasting.specs.Calls.{Ran, Reset};
 use crate::layout::STATE_BYTES;
 use crate::whole::put_unit;
 use crate::whole::unit_from;
-use list_run::bytes::byte_refusal;
+use answers::byte_refusal;
 use list_run::bytes::run_bytes;
 use unit::step::Unit;
 

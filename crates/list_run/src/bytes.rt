@@ -3,15 +3,14 @@ ghost use mathlib.Core.Path.{_≡_};
 ghost use Prim.Native.Nat.{_+_, _<_, _≤_};
 ghost use lib.ListN.{length};
 ghost use Rattle.unit.specs.Both.{stateOf};
-ghost use Rattle.lists.specs.Bytes.{byteRefusal, bytesAfter, countRefusal, stateAfter};
+ghost use Rattle.lists.specs.Bytes.{byteRefusal, bytesAfter, stateAfter};
 ghost use Rattle.list_run.specs.Run.{RunsSpelled};
 ghost use Rattle.list_run.specs.Run.{wordAt, wordPut};
 ghost use Rattle.list_run.specs.Run.{Whole};
 use crate::run::unit_of;
 use answers::answer_word;
+use answers::byte_refusal;
 use line::numbers::RBF_BYTES;
-use line::numbers::REFUSED_BYTE_COUNT;
-use line::numbers::REFUSED_SHORT_LIST;
 use line::numbers::TBF_BYTES;
 use rules::answer::Answer;
 use unit::step::Lent;
@@ -52,20 +51,6 @@ fn put_word(bytes: &mut [u8], at: usize, word: u32)
     bytes[at + 1] = (word / 0x100 % 256) as u8;
     bytes[at + 2] = (word / 0x1_0000 % 256) as u8;
     bytes[at + 3] = (word / 0x100_0000 % 256) as u8;
-}
-
-// With which number a run over so many bytes of words, and so many for answers, is refused; 0 where it is not.
-pub fn byte_refusal(words: usize, answers: usize) -> u32
-    ensures { λ r. ⌜ r ≡ countRefusal words answers ⌝ }
-{
-    // "The lowest number wins": the count comes before the answer list.
-    if words % WORD_BYTES != 0 {
-        return REFUSED_BYTE_COUNT as u32;
-    }
-    if answers < words {
-        return REFUSED_SHORT_LIST as u32;
-    }
-    0
 }
 
 // The words that bytes spell, run in order by a unit whose buffers are lent; what stands past the last answer is kept.

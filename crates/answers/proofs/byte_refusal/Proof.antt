@@ -1,8 +1,8 @@
 use borrow.Author.Needs.{needs}
 use borrow.Author.Tests.{lt-ltb, le-ltb, eq-eqb, ne-eqb}
 use Rattle.lists.specs.Bytes.{countRefusal}
-use Rattle.list_run.proofs.bytes.byte_refusal.Statement.{statement}
-use Rattle.list_run.proofs.bytes.byte_refusal.Tie as tie
+use Rattle.answers.proofs.byte_refusal.Statement.{statement}
+use Rattle.answers.proofs.byte_refusal.Tie as tie
 
 pub byte-refusal-spec : {M : Type 1} → statement M
 unfolding countRefusal
