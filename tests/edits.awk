@@ -60,6 +60,8 @@ function quoted(e,    i, count) {
 # what is wrong with an edit of a definition or a statement
 function wrong_rule(e) {
     if (!((crates[e], named[e]) in declared)) return crates[e] " declares no " named[e]
+    if (named[e] ~ /-spec$/) return "the proof of a function is neither a theorem nor a computed check"
+    if (files[edits[e]] ~ / specs\/(Cases|Stories)\.antt/) return "it changes what is computed, and no rule"
     # a claim may also be made in the contract of a function, which stands in src/
     if (kinds[e] != "claim" && files[edits[e]] !~ / specs\//) return "it changes no definition"
     if (kinds[e] ~ /^(misreading|dead unit)$/ && !quoted(e))
@@ -90,14 +92,25 @@ function judge_lines(    i) {
 # Where an edit was refused. Of a declaration NAME in specs/ or proofs/ an error is 'FILE:L:C: error: `NAME`: text'. Of
 # a function that needs no proof file it is 'note: FILE:L:C: it is not proved that ..'. Lines that go on are indented.
 # An error that only says that another declaration 'was not admitted' follows from that one's. That is enough for a
-# theorem, which may rest on what fails; a computed check has to come out wrong itself. Where the declaration that
-# fails first names a part of the code or of the goal that is no longer there, the proof file does not fit any more,
-# and nothing was asked of the code: that shows nothing.
+# theorem, which may rest on what fails; a computed check has to come out wrong itself. A definition that is changed has
+# to be one still: an error in the file that the edit changes shows nothing. Nor does a proof that names a part of the
+# code or of the goal that is no longer there, where it fails first: it does not fit any more, and nothing was asked of
+# the code. An edit of code has to leave the function that it names unproved.
 BEGIN { misfit = "has no (`Need-|field `)|that can be named from here|is a declared record, built with" }
 
-function read_error(e, line,    follows, name) {
+# whether an error is in a file of definitions that the edit itself changes
+function in_own_file(e, line,    file) {
+    if (!match(line, /specs\/[^:]*:[0-9]+:[0-9]+: error: /)) return 0
+    file = substr(line, RSTART, RLENGTH)
+    sub(/:.*/, "", file)
+    return index(files[edits[e]] " ", " " file " ") > 0
+}
+
+function read_error(e, line,    follows, name, broken) {
+    broken = in_own_file(e, line)
     sub(/^[^`]*: error: /, "", line)
-    follows = line ~ /` was not admitted/
+    follows = line ~ /was not admitted/
+    if (broken && !follows) malformed = line
     if (index(line, "`" named[e] "`: ") == 1 && !(follows && named[e] ~ /-cases$/)) own = line
     if (follows) return 0
     name = line ~ /^`/ ? substr(line, 1, index(line, "`: ")) : ""
@@ -105,15 +118,25 @@ function read_error(e, line,    follows, name) {
     return name == first_name
 }
 
+# whether a line says that the function named is not proved
+function unproved(e, line,    path) {
+    if (line !~ /^fn [^ ]*: (not proved|no proof)/) return 0
+    path = substr(line, 4, index(line, ": ") - 4)
+    return index(path, crates[e] "::") == 1 && substr("::" path, length(path) - length(named[e]) + 1) == "::" named[e]
+}
+
 # sets `first`, the first error that follows from no other, `own`, one of the declaration that should refuse the edit,
-# and `unfit`, a line on what is no longer there
+# `unfit`, a line on what is no longer there, `malformed`, one on a definition that is none any more, and `hit`, whether
+# the function named is not proved
 function read_log(e,    log_file, line, status, inside) {
-    first = own = unfit = ""
+    first = own = unfit = malformed = ""
+    hit = 0
     log_file = "target/must-fail/" edits[e] "/.log"
     while ((status = (getline line < log_file)) > 0) {
         if (line !~ /^  /)
             inside = line ~ /^[^`]*:[0-9]+:[0-9]+: (error: |it is not proved that )/ && read_error(e, line)
         if (inside && line ~ misfit) unfit = line
+        if (unproved(e, line)) hit = 1
     }
     close(log_file)
     return status
@@ -122,7 +145,9 @@ function read_log(e,    log_file, line, status, inside) {
 function wrong_log(e) {
     if (read_log(e) < 0) return "it has no log"
     if (first == "") return "its log has no error"
-    if (kinds[e] == "code") return unfit == "" ? "" : "a proof that no longer fits: " substr(unfit, 1, 300)
+    if (malformed != "") return "what it makes of a definition is none: " substr(malformed, 1, 300)
+    if (kinds[e] == "code" && unfit != "") return "a proof that no longer fits: " substr(unfit, 1, 300)
+    if (kinds[e] == "code") return hit ? "" : named[e] " is proved all the same"
     return own == "" ? "not refused by " named[e] ", but: " substr(first, 1, 300) : ""
 }
 

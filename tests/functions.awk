@@ -37,6 +37,19 @@ function pass_on(path, line,    head, names, count, i, name) {
         passed[below(head, name[i])] = below(path, name[i])
         # a path may also be meant from the module that has the line
         if (path != "") passed[below(below(path, head), name[i])] = below(path, name[i])
+        uses[++use_count] = line
+        use_of[use_count] = below(head, name[i])
+        use_in[use_count] = below(below(path, head), name[i])
+        use_name[use_count] = name[i]
+    }
+}
+
+# a name that is passed on is that of a function or a type which was read; a module, say, would hide what it has
+function judge_uses(    i, j) {
+    for (i = 1; i <= use_count; i++) {
+        if (use_name[i] in types) continue
+        for (j = 1; j <= count && found[j] != use_of[i] && found[j] != use_in[i]; j++);
+        if (j > count) give_up(src, "`pub use` of something else than a function or a type: " uses[i])
     }
 }
 
@@ -46,7 +59,8 @@ function item(path, dir, open, line,    name) {
         module(below(path, name), dir "/" name ".rt", dir "/" name, open && line ~ /^[ \t]*pub mod/)
     } else if (line ~ /^[ \t]*(pub(\([a-z]+\))? )?mod [A-Za-z0-9_]+/)
         give_up(dir, "a module in its parent's file: " line)
-    else if (open && line ~ /^[ \t]*pub use /) {
+    else if (line ~ /^[ \t]*pub use /) {
+        if (!open) give_up(dir, "`pub use` in a module that is not public: " line)
         if (line !~ /;/ || line ~ /\*| as /) give_up(dir, "another `pub use` than of names: " line)
         pass_on(path, line)
     } else if (line ~ /^pub (struct|enum) /)
@@ -76,6 +90,7 @@ function module(path, file, dir, open,    line, type, name, status) {
 
 BEGIN {
     module("", src "/lib.rt", src, 1)
+    judge_uses()
     for (i = 1; i <= count; i++) {
         if (of[i] != "") { if (of[i] in types) print found[i] }
         else if (seen[i]) print found[i]

@@ -47,6 +47,10 @@ refusalCases =
     ∷ (outcome (ordinary 5 ∷ ordinary 0x1000 ∷ ordinary 0x1001 ∷ []) (7 ∷ 7 ∷ 7 ∷ []) 0 gives 14 ∷ 1 ∷ 7 ∷ 7 ∷ 7 ∷ [])
     ∷ (outcome (record { bit = 2; address = 5 } ∷ []) (7 ∷ []) 0 gives 14 ∷ 0 ∷ 7 ∷ [])
     ∷ (outcome (ordinary 5 ∷ broadcast 5 ∷ ordinary 5 ∷ []) (7 ∷ 7 ∷ 7 ∷ []) 2 gives 15 ∷ 2 ∷ 7 ∷ 7 ∷ 7 ∷ [])
+    -- "The lowest number wins"; and two are alike "in bit and address"
+    ∷ (verdictOf (contestOf (row 51 0) (7 ∷ []) 0) .number ∷ [] gives 12 ∷ [])
+    ∷ (outcome (ordinary 5 ∷ ordinary 5 ∷ ordinary 0x1000 ∷ []) (7 ∷ 7 ∷ 7 ∷ []) 0 gives 14 ∷ 2 ∷ 7 ∷ 7 ∷ 7 ∷ [])
+    ∷ (outcome (ordinary 5 ∷ broadcast 5 ∷ []) (7 ∷ 7 ∷ []) 0 gives 0 ∷ 1 ∷ 2 ∷ 0 ∷ [])
     ∷ (outcome (ordinary 0x100 ∷ ordinary 0x0FF ∷ []) (7 ∷ 7 ∷ 8 ∷ 9 ∷ []) 0 gives 0 ∷ 1 ∷ 6 ∷ 0 ∷ 8 ∷ 9 ∷ [])
     ∷ []
 

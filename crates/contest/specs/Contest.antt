@@ -15,7 +15,8 @@ use Rattle.contest.specs.declared.contenders.Contender.{Contender}
 use Rattle.contest.specs.declared.contenders.Contenders.{Contenders}
 use Rattle.contest.specs.declared.contenders.Outcome.{Outcome}
 use Rattle.contest.specs.declared.contenders.Verdict.{Verdict}
-use Rattle.contest.specs.declared.contenders.Outcome.the-variants.{Winner, ShortList, WrongCount, OutOfRange, Alike}
+use Rattle.contest.specs.declared.contenders.Outcome.the-variants.{Winner, ShortList, WrongCount, OutOfRange}
+use Rattle.contest.specs.declared.contenders.Outcome.the-variants.{Alike}
 
 -- ---- The contenders: "a lent list of records, each a broadcast bit and an address"
 

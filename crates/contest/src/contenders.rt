@@ -3,7 +3,8 @@
 ghost use mathlib.Core.Path.{_≡_};
 ghost use Prim.Native.Nat.{_<_, _≤_};
 ghost use lib.ListN.{length};
-ghost use Rattle.contest.specs.Contest.{Contested, WonRightly, noContenders, withContender, contendersOf, verdictOf};
+ghost use Rattle.contest.specs.Contest.{Contested, WonRightly, noContenders, withContender, contendersOf};
+ghost use Rattle.contest.specs.Contest.{verdictOf};
 ghost use Rattle.contest.specs.Contest.{alike, firstAlikeFrom, firstOut, firstTwin, inRange, numberOf};
 ghost use Rattle.contest.specs.Deciding.{Fair, Least, Losses, differs};
 use line::numbers::CONTEST_SLOTS;

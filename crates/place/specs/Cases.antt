@@ -229,6 +229,7 @@ slaveCases =
     ∷ (drivenIn receiver asSlave (toAll 0xFFF ++ closed 4 0xF 1 ++ closed 8 1 1 ++ closed 8 0x35 1)
     gives released 54)
     ∷ (eventsIn receiver asSlave (toAll 0x1FF) gives 2 ∷ [])
+    ∷ (eventsIn receiver asSlave (toAll 0x100) gives 2 ∷ [])
     ∷ (eventsIn receiver asSlave (toAll 0xF23) gives 2 ∷ 8 ∷ [])
     -- "A broadcast is taken only with AH, BH, EH, FH"
     ∷ (stayedIn (slaveOf true true false) (frameAfter receiver asSlave (toAll 0xFFF)) 16
@@ -237,7 +238,10 @@ slaveCases =
     ∷ (stayedIn (slaveOf true true true) (frameAfter receiver asSlave (toAll 0xFFF)) 16
     gives 1 ∷ 1 ∷ 0 ∷ 0 ∷ 1 ∷ 1 ∷ many 10 0)
     ∷ (stayedIn (slaveOf true true true) (frameAfter receiver asSlave (broadcastOf 0x111 0xFFF)) 16 gives many 16 0)
-    -- "bad parity in any field ends it", with P
+    -- "bad parity in any field ends it", with P, that of the slave address where an address has it
+    ∷ (eventsIn receiver asSlave (0 ∷ spoilt 12 0x525 ++ field 12 0xFFF) gives 2 ∷ 8 ∷ [])
+    ∷ (eventsIn receiver asSlave (0 ∷ field 12 0x525 ++ spoilt 12 0xFFF) gives 2 ∷ 8 ∷ [])
+    ∷ (eventsIn receiver asSlave (toAll 0xFFF ++ spoilt 4 0xF) gives 2 ∷ 8 ∷ [])
     ∷ (eventsIn receiver asSlave (toAll 0xFFF ++ closed 4 0xF 1 ++ spoilt 8 1) gives 2 ∷ 3 ∷ 8 ∷ [])
     ∷ (eventsIn receiver asSlave (toAll 0xFFF ++ closed 4 0xF 1 ++ closed 8 1 1 ++ spoilt 8 0x35)
     gives 2 ∷ 3 ∷ 4 ∷ 8 ∷ [])
@@ -248,11 +252,22 @@ slaveCases =
     (closed 8 0 0 ++ closed 8 0 0 ++ 1 ∷ []) gives closed 8 1 1 ++ closed 8 1 1 ++ 1 ∷ [])
     ∷ []
 
--- a master about to send 35H, as its length and as its bytes
-abbrev pub writing : Frame
-writing =
+-- a master about to send a byte, as its length and as its bytes
+abbrev pub writing : ℕ → Frame
+writing byte =
     withLength (frameAfter (masterOf456 0x123 true 0xF) asMaster
-    (1 ∷ field 12 0x123 ++ closed 12 0x456 0 ++ closed 4 0xF 0)) 0x35
+    (1 ∷ field 12 0x123 ++ closed 12 0x456 0 ++ closed 4 0xF 0)) byte
+
+-- one about to read with 3H
+abbrev pub reading : Frame
+reading =
+    frameAfter (masterOf456 0x123 true 0x3) asMaster
+    (1 ∷ field 12 0x123 ++ closed 12 0x456 0 ++ closed 4 0x3 0)
+
+-- so many attempts that another gives NAK to
+abbrev pub nakAttempts : ℕ → List ℕ
+nakAttempts zero = []
+nakAttempts (suc n) = closed 8 0x35 1 ++ nakAttempts n
 
 unfoldable pub masterCases : List Case
 masterCases =
@@ -260,11 +275,16 @@ masterCases =
     (drivenIn (masterOf456 0x123 true 0xB) asMaster (1 ∷ field 12 0x123 ++ closed 12 0x456 0 ++ closed 4 0xB 0)
     gives 1 ∷ field 12 0x123 ++ closed 12 0x456 1 ++ closed 4 0xB 1)
     -- length and data; "NAK after data repeats the byte"
-    ∷ (drivenIn (masterOf456 0x123 true 0xF) writing (closed 8 0x35 0 ++ closed 8 0x35 1 ++ closed 8 0x35 0)
+    ∷ (drivenIn (masterOf456 0x123 true 0xF) (writing 0x35) (closed 8 0x35 0 ++ closed 8 0x35 1 ++ closed 8 0x35 0)
     gives closed 8 0x35 1 ++ closed 8 0x35 1 ++ closed 8 0x35 1)
-    ∷ (eventsIn (masterOf456 0x123 true 0xF) writing (closed 8 0x35 0 ++ closed 8 0x35 1 ++ closed 8 0x35 0)
+    ∷ (eventsIn (masterOf456 0x123 true 0xF) (writing 0x35) (closed 8 0x35 0 ++ closed 8 0x35 1 ++ closed 8 0x35 0)
     gives 4 ∷ 5 ∷ [])
-    -- "NAK after slave address .. aborts, except in a broadcast, where A is ignored"
+    -- the last attempt of a master too: 16 of 17 are made, and the request is aborted
+    ∷ (eventsIn (masterOf456 0x123 true 0xF) (writing 0x35) (closed 8 0x35 0 ++ nakAttempts 17) gives 4 ∷ 8 ∷ [])
+    -- "NAK after slave address, control or length aborts, except in a broadcast, where A is ignored"
+    ∷ (eventsIn (masterOf456 0x123 true 0xF) asMaster
+    (1 ∷ field 12 0x123 ++ closed 12 0x456 0 ++ closed 4 0xF 1) gives 2 ∷ 8 ∷ [])
+    ∷ (eventsIn (masterOf456 0x123 true 0xF) (writing 0x35) (closed 8 0x35 1) gives 8 ∷ [])
     ∷ (eventsIn (masterOf456 0x123 true 0xF) asMaster (1 ∷ field 12 0x123 ++ closed 12 0x456 1) gives 2 ∷ 8 ∷ [])
     ∷ (eventsIn (masterOf456 0x123 false 0xF) asMaster (0 ∷ field 12 0x123 ++ closed 12 0x456 1 ++ closed 4 0xF 1)
     gives 2 ∷ 3 ∷ [])
@@ -275,16 +295,25 @@ masterCases =
     ∷ (eventsIn (masterOf456 0x123 true 0xF) asMaster
     (1 ∷ field 12 0x023 ++ closed 12 0x123 0 ++ closed 4 0xF 0 ++ closed 8 1 0 ++ closed 8 0x35 0)
     gives 1 ∷ 2 ∷ 3 ∷ 4 ∷ 6 ∷ [])
-    ∷ (eventsIn (masterOf456 0x123 true 0xF) asMaster (0 ∷ []) gives 1 ∷ [])
-    -- "The same reading later in the master's own bits aborts": in P, in the slave address and its P, in control, in a
-    -- byte
+    ∷ (eventsIn (masterOf456 0x123 true 0xF) asMaster
+    (toAll 0xFFF ++ closed 4 0xF 1 ++ closed 8 1 1 ++ closed 8 0x35 1) gives 1 ∷ 2 ∷ 3 ∷ 4 ∷ 6 ∷ [])
+    -- "The same reading later in the master's own bits aborts": in P, in the slave address, control, length and data,
+    -- and in P of each
     ∷ (eventsIn (masterOf456 0x525 true 0xF) asMaster (1 ∷ spoilt 12 0x525) gives 8 ∷ [])
     ∷ (eventsIn (masterOf456 0x123 true 0xF) asMaster (1 ∷ field 12 0x123 ++ 0 ∷ 0 ∷ []) gives 2 ∷ 8 ∷ [])
     ∷ (eventsIn (masterOf456 0x123 true 0xF) asMaster (1 ∷ field 12 0x123 ++ spoilt 12 0x456) gives 2 ∷ 8 ∷ [])
     ∷ (eventsIn (masterOf456 0x123 true 0xF) asMaster (1 ∷ field 12 0x123 ++ closed 12 0x456 0 ++ 0 ∷ [])
     gives 2 ∷ 8 ∷ [])
-    ∷ (eventsIn (masterOf456 0x123 true 0xF) writing (closed 8 0x35 0 ++ 0 ∷ 0 ∷ 0 ∷ []) gives 4 ∷ 8 ∷ [])
-    -- a master that reads gives the ACK after length and data
+    ∷ (eventsIn (masterOf456 0x123 true 0xF) (writing 0x35) (closed 8 0x35 0 ++ 0 ∷ 0 ∷ 0 ∷ []) gives 4 ∷ 8 ∷ [])
+    ∷ (eventsIn (masterOf456 0x123 true 0xB) asMaster (1 ∷ field 12 0x123 ++ closed 12 0x456 0 ++ spoilt 4 0xB)
+    gives 2 ∷ 8 ∷ [])
+    ∷ (eventsIn (masterOf456 0x123 true 0xF) (writing 0x35) (0 ∷ 0 ∷ 0 ∷ []) gives 8 ∷ [])
+    ∷ (eventsIn (masterOf456 0x123 true 0xF) (writing 0x07) (spoilt 8 0x07) gives 8 ∷ [])
+    ∷ (eventsIn (masterOf456 0x123 true 0xF) (writing 0x07) (closed 8 0x07 0 ++ spoilt 8 0x07) gives 4 ∷ 8 ∷ [])
+    -- a master that reads gives the ACK after length and data, and NAK where parity is bad
+    ∷ (eventsIn (masterOf456 0x123 true 0x3) reading (spoilt 8 1 ++ 1 ∷ []) gives 8 ∷ [])
+    ∷ (drivenIn (masterOf456 0x123 true 0x3) reading (closed 8 1 0 ++ spoilt 8 0x35 ++ 1 ∷ closed 8 0x35 0)
+    gives heard 8 0 ++ heard 8 1 ++ heard 8 0)
     ∷ (drivenIn (masterOf456 0x123 true 0x3) asMaster
     (1 ∷ field 12 0x123 ++ closed 12 0x456 0 ++ closed 4 0x3 0 ++ closed 8 1 0 ++ closed 8 0x35 0)
     gives 1 ∷ field 12 0x123 ++ closed 12 0x456 1 ++ closed 4 0x3 1 ++ heard 8 0 ++ heard 8 0)

@@ -2,7 +2,8 @@
 // frame stand here too (`specs/`), so that what rests on the rules of a frame need not rest on the code of `frame`,
 // which decides by them. No public function has a `requires`, and nothing is assumed.
 ghost use mathlib.Core.Path.{_≡_};
-ghost use Rattle.place.specs.Frame.{begunOf, doneOf, lengthOf, limitOf, nextOf, noFrame, nowhere, shiftOf, shiftedOf};
+ghost use Rattle.place.specs.Frame.{begunOf, doneOf, lengthOf, limitOf, nextOf, noFrame, nowhere, shiftOf};
+ghost use Rattle.place.specs.Frame.{shiftedOf};
 ghost use Rattle.place.specs.Frame.{toField, withLength};
 use line::numbers::ATTEMPTS_MODE_0;
 use line::numbers::ATTEMPTS_MODE_1;

@@ -1,7 +1,7 @@
 // The contest over "a lent list of records, each a broadcast bit and an address". Nothing is decided here: one function
 // reads a record and hands its two numbers on, and the others pass the list to it and what was gathered to the core.
-// Functions over a lent slice of structs are proved by a walk, so they stay thin (docs/DECISIONS.md, "Forms"). No public
-// function has a `requires`, and nothing is assumed.
+// Functions over a lent slice of structs are proved by a walk, so they stay thin (docs/DECISIONS.md, "Forms"). No
+// public function has a `requires`, and nothing is assumed.
 ghost use mathlib.Core.Path.{_≡_};
 ghost use Prim.Native.Nat.{_<_, min};
 ghost use lib.ListN.{length};

@@ -30,7 +30,7 @@ use Rattle.rules.specs.Stories.{contender, loss, lastLoss, lost, lostTwi
 use Rattle.rules.specs.Stories.{cleared, length256, group, general, masterStarts, masterWants, tooLong}
 use Rattle.rules.specs.Stories.{outlasted, outlastedBroken, noneTaken, ranEmpty7, unheard6, takenAnew}
 use Rattle.rules.specs.Stories.{comesAgain, twoOffered, twoSent, statusAsked, unheard, from525, readAll}
-use Rattle.rules.specs.Stories.{turnedDown, filled}
+use Rattle.rules.specs.Stories.{turnedDown, filled, wrote, controlsIn, oneOffered}
 
 -- "master 525H, FH, length 2: RBF begins 52H 5FH 02H"; "status after reset 80H"; the listing's example; the stories
 unfoldable pub unitCases : List Case
@@ -77,6 +77,14 @@ unitCases =
     ∷ (story noneTaken gives 15 ∷ 7 ∷ 0 ∷ 0 ∷ 0 ∷ 0 ∷ 0 ∷ 0 ∷ 4 ∷ [])
     ∷ (story ranEmpty7 gives 15 ∷ 3 ∷ 0 ∷ 0 ∷ 0 ∷ 0 ∷ 0 ∷ 0 ∷ 0 ∷ [])
     ∷ (story unheard6 gives 15 ∷ 7 ∷ 0 ∷ 0 ∷ 0 ∷ 1 ∷ 0x525 ∷ 0 ∷ 4 ∷ [])
+    -- "all bytes ACKed unlocks": of AH and of 3H too
+    ∷ (story (lockTaken ++ readOut ++ exchange 0x525 0x123 0xA 1 (0x98 ∷ []))
+    gives 15 ∷ 6 ∷ 0 ∷ 0 ∷ 0 ∷ 0 ∷ 0 ∷ 0 ∷ 4 ∷ [])
+    ∷ (story (lockTaken ++ readOut ++ oneOffered ++ exchange 0x525 0x123 0x3 1 (0x11 ∷ []))
+    gives 15 ∷ 2 ∷ 0 ∷ 0 ∷ 1 ∷ 0 ∷ 0 ∷ 0 ∷ 4 ∷ [])
+    -- cut in its length, a reception has not begun
+    ∷ (story (setUp ++ write 0x0 0x10 ∷ header 0x525 0x123 0xF 0 ++ 0 ∷ 0 ∷ 3 ∷ [])
+    gives 15 ∷ 15 ∷ 0 ∷ 0 ∷ 1 ∷ 0 ∷ 0 ∷ 0 ∷ 0 ∷ [])
     ∷ (story takenAnew gives 15 ∷ 7 ∷ 0 ∷ 0 ∷ 0 ∷ 1 ∷ 0x111 ∷ 0 ∷ 4 ∷ [])
     ∷ []
 
@@ -110,6 +118,10 @@ drivenCases =
     ∷ (answering (contender 0x9F) (3 ∷ exchange 0x023 0x123 0xF 1 (0x42 ∷ []))
     gives taken
     (2 ∷ 1 ∷ 0 ∷ 0 ∷ 0 ∷ 1 ∷ released 9 ++ heard 12 0 ++ heard 4 0 ++ heard 8 0 ++ heard 8 0 ++ 1 ∷ 2 ∷ []))
+    -- "A start slot always begins a frame", from the state that the end of the one before left
+    ∷ (answering (asksToWrite 0x0F) (3 ∷ 2 ∷ 2 ∷ []) gives taken (2 ∷ 0 ∷ 1 ∷ []))
+    -- a locked unit drives start too
+    ∷ (answering (lockTaken ++ readOut ++ to456 0x8F ++ filled 2 ++ write 0x1 0x08 ∷ []) (3 ∷ []) gives taken (2 ∷ []))
     -- "NAK after slave address .. aborts"; so do two starts
     ∷ (story (asksToWrite 0x8F ++ 2 ∷ 1 ∷ field 12 0x123 ++ answered 12 0x456 1)
     gives 3 ∷ 15 ∷ 0 ∷ 0 ∷ 0 ∷ 0 ∷ 0 ∷ 0 ∷ 0 ∷ [])
@@ -132,6 +144,12 @@ drivenCases =
     -- "A status or lock byte is fixed when its data field first begins": 0BH comes too late for both attempts
     ∷ (answering (setUp ++ filled 2 ++ from525 ++ statusAsked ++ write 0x1 0x0B ∷ unheard 1) (answered 8 0x90 0)
     gives taken (0 ∷ 0 ∷ 1 ∷ 0 ∷ 0 ∷ 0 ∷ 0 ∷ 0 ∷ 1 ∷ 1 ∷ []))
+    -- mode 1: the 32nd attempt is made, and no 33rd
+    ∷ (answering (write 0x2 0x33 ∷ write 0x3 0x12 ∷ from525 ++ statusAsked ++ unheard 31)
+    (answered 8 0x90 1 ++ 1 ∷ 1 ∷ []) gives taken (0 ∷ 0 ∷ 1 ∷ 0 ∷ 0 ∷ 0 ∷ 0 ∷ 0 ∷ 1 ∷ 1 ∷ 1 ∷ 1 ∷ []))
+    -- "UAR1 (own address low 4 bits ..)": written last, it keeps the high 8
+    ∷ (answering (write 0x3 0x12 ∷ write 0x2 0x32 ∷ from525) (answered 12 0x123 0)
+    gives taken (released 12 ++ 0 ∷ 1 ∷ []))
     -- "The mode counts as it was at the frame's start slot": no 17th attempt, UAR1 being written inside the frame
     ∷ (answering (setUp ++ from525 ++ write 0x2 0x33 ∷ statusAsked ++ unheard 16) (1 ∷ 1 ∷ [])
     gives taken (1 ∷ 1 ∷ []))
@@ -155,6 +173,13 @@ registerCases =
     gives 0xA000_0150 ∷ 0x8000_0200 ∷ 0xA000_0250 ∷ 0x8000_0100 ∷ 0xA000_0150 ∷ [])
     ∷ (answering (twoOffered ++ write 0x0 0x10 ∷ write 0x0 0x00 ∷ []) (read 0x1 ∷ write 0x1 0x0F ∷ read 0x1 ∷ [])
     gives 0xA000_0130 ∷ 0x9000_0100 ∷ 0xA000_0120 ∷ [])
+    -- an offer brings no code
+    ∷ (answering (reception ++ oneOffered) (read 0x8 ∷ []) gives values (0xF6 ∷ []))
+    -- "MCR control undefined; MCR broadcast with a read control": FH to 0H, individual and broadcast
+    ∷ (answering setUp (controlsIn 0x80 16)
+    gives wrote (0 ∷ 0 ∷ 4 ∷ 4 ∷ 0 ∷ 0 ∷ 4 ∷ 4 ∷ 0 ∷ 0 ∷ 0 ∷ 0 ∷ 0 ∷ 4 ∷ 4 ∷ 0 ∷ []))
+    ∷ (answering setUp (controlsIn 0x00 16)
+    gives wrote (0 ∷ 0 ∷ 4 ∷ 4 ∷ 0 ∷ 0 ∷ 4 ∷ 4 ∷ 4 ∷ 4 ∷ 4 ∷ 4 ∷ 4 ∷ 4 ∷ 4 ∷ 4 ∷ []))
     ∷ (answering (asksToWrite 0x8F) turnedDown
     gives refusals (1 ∷ 2 ∷ 2 ∷ 2 ∷ 3 ∷ 3 ∷ 4 ∷ 4 ∷ 4 ∷ 4 ∷ 4 ∷ 4 ∷ 6 ∷ 6 ∷ 6 ∷ 6 ∷ 6 ∷ 6 ∷ 6 ∷ []))
     -- 5, "level 1 while the unit drives 0": it is no slot, and the ACK is still given

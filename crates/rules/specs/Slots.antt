@@ -159,7 +159,7 @@ onLevel c bit seen =
 -- ---- a slot
 
 -- what a slot that is not refused does to a unit; a stray bit is no slot
-unfoldable pub onSlot : Core → Slot → Seen → Acted
+abbrev pub onSlot : Core → Slot → Seen → Acted
 onSlot c (Level bit) seen = onLevel c bit seen
 onSlot c Start seen = onStart c (seen .clear)
 onSlot c Idle seen = onIdle c

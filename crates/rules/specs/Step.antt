@@ -13,7 +13,7 @@ use Rattle.rules.specs.declared.answer.Reply.the-variants.{Taken, Writte
 use Rattle.rules.specs.declared.state.Acted.{Acted}
 use Rattle.rules.specs.Set.{core·regs}
 use Rattle.rules.specs.State.{State, reset, isEmpty, seenOf, tbfAfter, rbfAfter}
-use Rattle.rules.specs.Slots.{onStart, onIdle, onLevel, coreDrive}
+use Rattle.rules.specs.Slots.{onSlot, coreDrive}
 use Rattle.rules.specs.Registers.{Told, wrote, restarted, gave, denied, toldOf}
 
 -- what the unit drives in the next slot
@@ -25,14 +25,17 @@ nextDrive s = coreDrive (s .core) (isEmpty (s .rbf))
 abbrev pub actedOn : State → Acted → State
 actedOn s a = record { core = a .core; tbf = tbfAfter (a .act) (s .tbf); rbf = rbfAfter (a .act) (s .rbf) }
 
+abbrev pub actedBy : State → Slot → State
+actedBy s c = actedOn s (onSlot (s .core) c (seenOf (s .tbf) (s .rbf)))
+
 -- number 5: "level 1 while the unit drives 0"
 unfoldable pub clashes : State → Bool → Bool
 clashes s bit = bit && eqb (nextDrive s) driveLow
 
 unfoldable pub slotOn : State → Slot → State
-slotOn s (Level bit) = pick (clashes s bit) s (actedOn s (onLevel (s .core) bit (seenOf (s .tbf) (s .rbf))))
-slotOn s Start = actedOn s (onStart (s .core) (isEmpty (s .rbf)))
-slotOn s Idle = actedOn s (onIdle (s .core))
+slotOn s (Level bit) = pick (clashes s bit) s (actedBy s (Level bit))
+slotOn s Start = actedBy s Start
+slotOn s Idle = actedBy s Idle
 slotOn s Stray = s
 
 unfoldable pub slotSaid : State → State → Slot → Answer

@@ -86,6 +86,12 @@ abbrev pub refusals : List ℕ → List ℕ
 refusals [] = []
 refusals (n ∷ ns) = (0xF000_0000 + n) ∷ refusals ns
 
+-- writes, each taken with the line released (0) or refused by a number
+abbrev pub wrote : List ℕ → List ℕ
+wrote [] = []
+wrote (zero ∷ ns) = 0x9000_0100 ∷ wrote ns
+wrote (suc n ∷ ns) = (0xF000_0001 + n) ∷ wrote ns
+
 -- so many slots in which the line is released
 abbrev pub released : ℕ → List ℕ
 released zero = []
@@ -304,3 +310,12 @@ turnedDown =
 abbrev pub filled : ℕ → List ℕ
 filled zero = []
 filled (suc n) = write 0xE 0x55 ∷ filled n
+
+-- MCR with every control, the highest first, behind a broadcast bit and retries
+abbrev pub controlsIn : ℕ → ℕ → List ℕ
+controlsIn upper zero = []
+controlsIn upper (suc n) = write 0x6 (upper + n) ∷ controlsIn upper n
+
+-- an offer of one byte
+abbrev pub oneOffered : List ℕ
+oneOffered = write 0xE 1 ∷ write 0xE 0x11 ∷ write 0x1 0x0B ∷ []

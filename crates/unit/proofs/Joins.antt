@@ -15,7 +15,6 @@ use Rattle.unit.specs.Both.{gaveIn, refusedIn, slotActed, slotRefusal, t
 use Rattle.rules.specs.Registers.{gave, readRefusal, readTold, readValue, registerOf, toldOf, valueOf, writeDone}
 use Rattle.rules.specs.Registers.{writeRefusal, writeTold, written}
 use Rattle.rules.specs.Set.{core·regs}
-use Rattle.rules.specs.Slots.{onSlot}
 use Rattle.rules.specs.State.{State, isEmpty, pushOf, reset}
 use Rattle.rules.specs.Step.{actedOn, answerOf, clashes, slotOn, slotSaid, stepOf}
 
@@ -25,15 +24,15 @@ pub slot-refused : (s : State) (c : Slot) → eqb (slotRefusal s c) 0 ≡ false
     → refusedIn s (slotRefusal s c) ≡ afterSlot s c
 unfolding slotOn slotSaid slotRefusal
 slot-refused s (Level bit) some =
-    ⊎-elim (λ (clash : clashes s bit ≡ true). simp clash) (λ (free : clashes s bit ≡ false). absurd (subst T (simp free at some) tt))
-    (either (clashes s bit))
+    ⊎-elim (λ (clash : clashes s bit ≡ true). simp clash)
+    (λ (free : clashes s bit ≡ false). absurd (subst T (simp free at some) tt)) (either (clashes s bit))
 slot-refused s Start some = absurd (subst T some tt)
 slot-refused s Idle some = absurd (subst T some tt)
 slot-refused s Stray some = refl
 
 pub slot-taken : (s : State) (c : Slot) → eqb (slotRefusal s c) 0 ≡ true
     → takenIn (actedOn s (slotActed s c)) ≡ afterSlot s c
-unfolding slotOn slotSaid slotRefusal onSlot
+unfolding slotOn slotSaid slotRefusal
 slot-taken s (Level bit) none =
     ⊎-elim (λ (clash : clashes s bit ≡ true). absurd (subst T (sym (simp clash at none)) tt))
     (λ (free : clashes s bit ≡ false). simp free) (either (clashes s bit))

@@ -30,8 +30,9 @@ use Rattle.rules.specs.declared.state.Core.{Core}
 use Rattle.rules.specs.declared.state.Seen.{Seen}
 use Rattle.unit.specs.Both.{afterSlot, afterWord, slotRefusal, takenIn}
 use Rattle.rules.specs.Endings.{acted}
-use Rattle.unit.specs.Plain.{amidAt, amidOf, insideOf, listenedAt, listenedOf, plainAt, plainCore, plainOf, tookOn}
-use Rattle.rules.specs.Slots.{coreDrive, driveAt, onEvent, onLevel, onSlot}
+use Rattle.unit.specs.Plain.{amidAt, amidOf, insideOf, listenedAt, listenedOf, plainAt, plainCore, plainOf}
+use Rattle.unit.specs.Plain.{tookOn}
+use Rattle.rules.specs.Slots.{coreDrive, driveAt, onEvent, onLevel}
 use Rattle.rules.specs.State.{State, isEmpty, rbfAfter, seenOf, takesPart, tbfAfter, viewOf}
 use Rattle.rules.specs.Step.{actedOn, answerOf, clashes, nextDrive, stepOf}
 use Rattle.rules.proofs.Calm.{pick-no, pick-yes}
@@ -182,7 +183,7 @@ acts-agreeing c bit seen e d =
 only-taken-in : (s : State) (bit : Bool) → clashes s bit ≡ false
     → onLevel (s .core) bit (seenOf (s .tbf) (s .rbf)) ≡ acted Nothing (plainCore (s .core) bit)
     → takenIn (tookOn s bit) ≡ afterSlot s (Level bit)
-unfolding slotRefusal onSlot tbfAfter rbfAfter
+unfolding slotRefusal tbfAfter rbfAfter
 only-taken-in s bit free acts =
     ap (λ (a : Acted). takenIn (actedOn s a)) (sym acts) ∙ slot-taken s (Level bit) (rw free refl)
 

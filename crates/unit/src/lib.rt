@@ -1,5 +1,5 @@
-// A unit: its registers, buffers, lock and return codes, and what it makes of every word. No public function has a
-// `requires`, and nothing is assumed.
+// A unit with its buffers, and what it makes of every word: a slot by `slots`, a word of the host's by `registers`, and
+// the buffers here. No public function has a `requires`, and nothing is assumed.
 mod answer;
 pub mod buffers;
 mod host;

@@ -9,7 +9,8 @@ use Rattle.contest.specs.Contest.{numbersAfter, verdictOf, Contested}
 use Rattle.contest.specs.Deciding.{Fair, Least, Losses}
 use Rattle.contest.specs.declared.contenders.Contender.{Contender}
 use Rattle.contest.specs.declared.contenders.Outcome.{Outcome}
-use Rattle.contest.specs.declared.contenders.Outcome.the-variants.{Winner, ShortList, WrongCount, OutOfRange, Alike}
+use Rattle.contest.specs.declared.contenders.Outcome.the-variants.{Winner, ShortList, WrongCount, OutOfRange}
+use Rattle.contest.specs.declared.contenders.Outcome.the-variants.{Alike}
 use Rattle.contest.proofs.contenders.Places.{twin-found}
 use Rattle.contest.proofs.contenders.Winner.{losses-are, winner-is}
 

@@ -1,10 +1,8 @@
-use Rattle.rules.specs.Slots.{onSlot}
 use borrow.Author.Needs.{needs}
 use Rattle.slots.proofs.on_slot.Statement.{statement}
 use Rattle.slots.proofs.on_slot.Tie as tie
 
 pub on-slot-spec : {M : Type 1} → statement M
-unfolding onSlot
 on-slot-spec =
     tie.close
     (tie.spec

@@ -12,7 +12,8 @@ unfolding numberOf listRefusal unitAfter answersAfter
 run-spec =
     tie.close
     (tie.spec
-    (λ c. let short = lt-ltb _ _ (c .if1 .taken) in record { ends = simp short; left = simp short; written = simp short; protected = holds })
+    (λ c. let short = lt-ltb _ _ (c .if1 .taken) in
+    record { ends = simp short; left = simp short; written = simp short; protected = holds })
     (λ c κs. search needs)
     (λ c κs. search needs)
     (λ c. search needs)

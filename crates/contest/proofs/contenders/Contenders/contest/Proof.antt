@@ -1,7 +1,8 @@
 use native.Mathlib.Omega.{arith}
 use borrow.Author.Needs.{needs}
 use Rattle.contest.proofs.contenders.Loops.{contenders-length}
-use Rattle.contest.proofs.contenders.Endings.{ends-short, ends-empty, ends-crowded, ends-out-of-range, ends-alike}
+use Rattle.contest.proofs.contenders.Endings.{ends-short, ends-empty, ends-crowded, ends-out-of-range}
+use Rattle.contest.proofs.contenders.Endings.{ends-alike}
 use Rattle.contest.proofs.contenders.Contenders.contest.Statement.{statement}
 use Rattle.contest.proofs.contenders.Contenders.contest.Tie as tie
 
