@@ -8,12 +8,16 @@ use crate::judging::addressed;
 use crate::judging::judge_control;
 use crate::judging::stranger;
 use line::parity::parity_holds;
+use moves::done;
+use moves::next;
+use moves::shifted;
+use moves::to;
+use moves::writes;
 use place::Event;
 use place::Field;
 use place::Frame;
 use place::Moved;
 use place::View;
-use place::writes;
 
 // "An ACK is .. awaited from another, the settled level", and "in a broadcast .. A is ignored".
 pub(crate) fn heard(frame: Frame, bit: bool) -> bool
@@ -34,7 +38,7 @@ pub(crate) fn at_broadcast(mut frame: Frame, bit: bool) -> Moved
 {
     frame.broadcast = !bit;
     Moved {
-        frame: frame.to(Field::Master),
+        frame: to(frame, Field::Master),
         event: Event::Nothing,
     }
 }
@@ -46,7 +50,7 @@ fn with_master(mut frame: Frame, held: bool) -> Frame
     let address = frame.shift;
     frame.master = address;
     frame.sound = held;
-    frame.to(Field::Slave)
+    to(frame, Field::Slave)
 }
 
 pub(crate) fn at_master(frame: Frame, n: u8, bit: bool) -> Moved
@@ -54,7 +58,7 @@ pub(crate) fn at_master(frame: Frame, n: u8, bit: bool) -> Moved
 {
     if n < 12 {
         return Moved {
-            frame: frame.shifted(Field::Master, n, bit),
+            frame: shifted(frame, Field::Master, n, bit),
             event: Event::Nothing,
         };
     }
@@ -71,12 +75,12 @@ pub(crate) fn go_on(frame: Frame, field: Field, n: u8, goes: bool) -> Moved
 {
     if goes {
         return Moved {
-            frame: frame.next(field, n),
+            frame: next(frame, field, n),
             event: Event::Nothing,
         };
     }
     Moved {
-        frame: frame.done(),
+        frame: done(frame),
         event: Event::Aborted,
     }
 }
@@ -87,12 +91,12 @@ pub(crate) fn after_ack(frame: Frame, acked: bool, field: Field, event: Event) -
 {
     if acked {
         return Moved {
-            frame: frame.to(field),
+            frame: to(frame, field),
             event,
         };
     }
     Moved {
-        frame: frame.done(),
+        frame: done(frame),
         event: Event::Aborted,
     }
 }
@@ -120,7 +124,7 @@ pub(crate) fn at_slave(frame: Frame, n: u8, bit: bool, own: u16) -> Moved
 {
     if n < 12 {
         return Moved {
-            frame: frame.shifted(Field::Slave, n, bit),
+            frame: shifted(frame, Field::Slave, n, bit),
             event: Event::Nothing,
         };
     }
@@ -167,7 +171,7 @@ pub(crate) fn at_control(frame: Frame, n: u8, bit: bool, view: View) -> Moved
 {
     if n < 4 {
         return Moved {
-            frame: frame.shifted(Field::Control, n, bit),
+            frame: shifted(frame, Field::Control, n, bit),
             event: Event::Nothing,
         };
     }

@@ -4,8 +4,8 @@ ghost use Rattle.line.specs.Choice.{pick};
 ghost use Rattle.place.specs.Slaves.{acceptedOf, addressedOf, byValue, controlOf, openTo, strangerOf};
 use line::numbers::GENERAL_BROADCAST;
 use place::Frame;
+use place::Judged;
 use place::View;
-use place::control::Judged;
 
 // The slave address is for this unit, and both parities held: its own or, in a broadcast, the group's ("same top four
 // address bits") or the general one.

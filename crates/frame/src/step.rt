@@ -10,6 +10,7 @@ use crate::header::at_master;
 use crate::header::at_slave;
 use crate::text::at_data;
 use crate::text::at_length;
+use moves::done;
 use place::Event;
 use place::Field;
 use place::Frame;
@@ -92,7 +93,7 @@ fn in_field(frame: Frame, field: Field, n: u8, bit: bool, view: View) -> Moved
     let overruled = clash(frame, field, n, bit, view);
     if overruled & !contested(field, n) {
         return Moved {
-            frame: frame.done(),
+            frame: done(frame),
             event: Event::Aborted,
         };
     }

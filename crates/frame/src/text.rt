@@ -6,6 +6,10 @@ use crate::header::after_ack;
 use crate::header::go_on;
 use crate::header::heard;
 use line::parity::parity_holds;
+use moves::done;
+use moves::shifted;
+use moves::to;
+use moves::with_length;
 use place::Event;
 use place::Field;
 use place::Frame;
@@ -34,7 +38,7 @@ fn length_judged(frame: Frame, n: u8, bit: bool) -> Moved
     }
     let byte = (frame.shift % 256) as u8;
     let held = parity_holds(frame.shift as u32, bit);
-    let read = with_ack(frame.with_length(byte), held);
+    let read = with_ack(with_length(frame, byte), held);
     go_on(read, Field::Length, n, held | !frame.broadcast)
 }
 
@@ -43,7 +47,7 @@ pub(crate) fn at_length(frame: Frame, n: u8, bit: bool) -> Moved
 {
     if n < 8 {
         return Moved {
-            frame: frame.shifted(Field::Length, n, bit),
+            frame: shifted(frame, Field::Length, n, bit),
             event: Event::Nothing,
         };
     }
@@ -107,18 +111,18 @@ fn ends(frame: Frame, whole: bool, last: bool) -> Moved
 {
     if whole {
         return Moved {
-            frame: frame.done(),
+            frame: done(frame),
             event: Event::AllAcked,
         };
     }
     if last {
         return Moved {
-            frame: frame.done(),
+            frame: done(frame),
             event: Event::ShortAcked,
         };
     }
     Moved {
-        frame: frame.to(Field::Data),
+        frame: to(frame, Field::Data),
         event: Event::ByteAcked,
     }
 }
@@ -129,12 +133,12 @@ fn again(frame: Frame, last: bool) -> Moved
 {
     if last {
         return Moved {
-            frame: frame.done(),
+            frame: done(frame),
             event: Event::Aborted,
         };
     }
     Moved {
-        frame: frame.to(Field::Data),
+        frame: to(frame, Field::Data),
         event: Event::Nothing,
     }
 }
@@ -154,7 +158,7 @@ pub(crate) fn at_data(frame: Frame, n: u8, bit: bool) -> Moved
 {
     if n < 8 {
         return Moved {
-            frame: frame.shifted(Field::Data, n, bit),
+            frame: shifted(frame, Field::Data, n, bit),
             event: Event::Nothing,
         };
     }

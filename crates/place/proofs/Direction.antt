@@ -9,8 +9,8 @@ use lib.Dec.{eqb}
 use lib.ListN.{List·getD-eq-default}
 use Rattle.line.proofs.Either.{by-value}
 use Rattle.place.specs.Slaves.{byValue, controls, only, writesOf}
-use Rattle.place.specs.declared.control.Judged.{Judged}
-use Rattle.place.specs.declared.control.Judged.the-variants.{Nak, Sends, Receives}
+use Rattle.place.specs.declared.Judged.{Judged}
+use Rattle.place.specs.declared.Judged.the-variants.{Nak, Sends, Receives}
 
 abbrev receives : Judged → Bool
 receives Nak = false

@@ -6,8 +6,8 @@ use lib.Dec.{eqb}
 use lib.ListN.{getD}
 use Rattle.line.specs.Choice.{pick}
 use Rattle.line.specs.Numbers.{generalBroadcast}
-use Rattle.place.specs.declared.control.Judged.{Judged}
-use Rattle.place.specs.declared.control.Judged.the-variants.{Nak, Sends, Receives}
+use Rattle.place.specs.declared.Judged.{Judged}
+use Rattle.place.specs.declared.Judged.the-variants.{Nak, Sends, Receives}
 use Rattle.place.specs.declared.Frame.{Frame}
 use Rattle.place.specs.declared.View.{View}
 

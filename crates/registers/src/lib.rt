@@ -42,7 +42,7 @@ use line::numbers::REG_TBF;
 use line::numbers::REG_UAR1;
 use line::numbers::REG_UAR2;
 use line::numbers::TBF_BYTES;
-use place::writes;
+use moves::writes;
 use rules::state::Registers;
 
 // "CTR (00H nothing, 08H reset, 10H set SLRE)".

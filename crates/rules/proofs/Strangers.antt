@@ -22,7 +22,7 @@ use Rattle.place.specs.Step.{slaveJudged, atSlave, withControl, controlJudged, 
 use Rattle.place.specs.Step.{dataJudged, countedOf, ackedOf, lastOf, wholeOf, endsOf, againOf, dataAcked, atData}
 use Rattle.place.specs.Step.{atField}
 use Rattle.place.specs.Step.{inField, atPlace, levelOf}
-use Rattle.place.specs.declared.control.Judged.the-variants.{Nak}
+use Rattle.place.specs.declared.Judged.the-variants.{Nak}
 use Rattle.place.specs.declared.Event.the-variants.{Nothing as Quiet, Addressed, ControlAcked, LengthAcked}
 use Rattle.place.specs.declared.Event.the-variants.{ByteAcked, Aborted}
 use Rattle.place.specs.declared.Field.{Field}

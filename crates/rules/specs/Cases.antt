@@ -144,9 +144,9 @@ drivenCases =
     -- "A status or lock byte is fixed when its data field first begins": 0BH comes too late for both attempts
     ∷ (answering (setUp ++ filled 2 ++ from525 ++ statusAsked ++ write 0x1 0x0B ∷ unheard 1) (answered 8 0x90 0)
     gives taken (0 ∷ 0 ∷ 1 ∷ 0 ∷ 0 ∷ 0 ∷ 0 ∷ 0 ∷ 1 ∷ 1 ∷ []))
-    -- mode 1: the 32nd attempt is made, and no 33rd
-    ∷ (answering (write 0x2 0x33 ∷ write 0x3 0x12 ∷ from525 ++ statusAsked ++ unheard 31)
-    (answered 8 0x90 1 ++ 1 ∷ 1 ∷ []) gives taken (0 ∷ 0 ∷ 1 ∷ 0 ∷ 0 ∷ 0 ∷ 0 ∷ 0 ∷ 1 ∷ 1 ∷ 1 ∷ 1 ∷ []))
+    -- "UAR1 (.. mode)": in mode 1 a 17th attempt is made
+    ∷ (answering (write 0x2 0x33 ∷ write 0x3 0x12 ∷ from525 ++ statusAsked ++ unheard 16) (answered 8 0x90 0)
+    gives taken (0 ∷ 0 ∷ 1 ∷ 0 ∷ 0 ∷ 0 ∷ 0 ∷ 0 ∷ 1 ∷ 1 ∷ []))
     -- "UAR1 (own address low 4 bits ..)": written last, it keeps the high 8
     ∷ (answering (write 0x3 0x12 ∷ write 0x2 0x32 ∷ from525) (answered 12 0x123 0)
     gives taken (released 12 ++ 0 ∷ 1 ∷ []))

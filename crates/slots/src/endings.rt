@@ -11,10 +11,11 @@ use line::numbers::CODE_BROADCAST_RECEIVING;
 use line::numbers::CODE_NORMAL;
 use line::numbers::CODE_RECEIVING;
 use line::numbers::CODE_SENDING;
+use moves::done;
+use moves::writes;
 use place::Field;
 use place::Frame;
 use place::Place;
-use place::writes;
 use rules::state::Act;
 use rules::state::Acted;
 use rules::state::Core;
@@ -203,6 +204,6 @@ pub(crate) fn cut(core: Core) -> Acted
     let place = spot.place;
     match place {
         Place::Waiting => acting(core, Act::Nothing),
-        Place::In(_, _) => left(ended(core, false), frame.done()),
+        Place::In(_, _) => left(ended(core, false), done(frame)),
     }
 }

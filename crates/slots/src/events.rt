@@ -14,9 +14,10 @@ use crate::state::acting;
 use crate::state::own_byte;
 use line::numbers::CODE_SENDING;
 use line::numbers::CODE_WANTED;
+use moves::with_length;
+use moves::writes;
 use place::Event;
 use place::Frame;
-use place::writes;
 use rules::state::Act;
 use rules::state::Acted;
 use rules::state::Core;
@@ -78,7 +79,7 @@ fn length_drawn(mut core: Core, front: u8) -> Acted
     ensures { λ r. ⌜ r ≡ lengthDrawn core front ⌝ }
 {
     let frame = core.frame;
-    let drawn = frame.with_length(front);
+    let drawn = with_length(frame, front);
     core.frame = drawn;
     acting(core, Act::Take)
 }
@@ -92,7 +93,7 @@ fn on_control_acked(mut core: Core, seen: Seen) -> Acted
         return length_drawn(sending_begun(core), seen.front);
     }
     if frame.sends {
-        let fixed = frame.with_length(1);
+        let fixed = with_length(frame, 1);
         core.frame = fixed;
         return acting(core, Act::Nothing);
     }

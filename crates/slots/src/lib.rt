@@ -10,7 +10,6 @@ use crate::state::view;
 use line::numbers::DRIVE_RELEASED;
 use line::numbers::DRIVE_START;
 use line::slot::Slot;
-use place::Frame;
 use place::Place;
 use rules::state::Act;
 use rules::state::Acted;
@@ -28,7 +27,7 @@ fn on_start(core: Core, clear: bool) -> Acted
     let mut after = cut(core);
     let mut rest = after.core;
     let regs = rest.regs;
-    let begun = Frame::begun(takes_part(regs, clear), regs.long);
+    let begun = moves::begun(takes_part(regs, clear), regs.long);
     rest.frame = begun;
     rest.idle = false;
     after.core = rest;

@@ -2,8 +2,8 @@
 ghost use mathlib.Core.Path.{_≡_};
 ghost use Rattle.rules.specs.Endings.{acted};
 ghost use Rattle.rules.specs.State.{ownByte, statusByte, takesPart, viewOf};
+use moves::writes;
 use place::View;
-use place::writes;
 use rules::state::Act;
 use rules::state::Acted;
 use rules::state::Core;

@@ -6,6 +6,7 @@ ghost use Rattle.unit.specs.Plain.{Agreed, Agrees, amidOf, insideOf, lis
 use crate::step::Answered;
 use crate::step::Lent;
 use line::numbers::DRIVE_RELEASED;
+use moves::shifted;
 use place::Field;
 use place::Frame;
 use place::Place;
@@ -57,7 +58,7 @@ fn listened(frame: Frame, bit: bool) -> Frame
     let place = spot.place;
     match place {
         Place::Waiting => frame,
-        Place::In(field, n) => frame.shifted(field, n, bit),
+        Place::In(field, n) => shifted(frame, field, n, bit),
     }
 }
 

@@ -2,7 +2,6 @@
 ghost use mathlib.Core.Path.{_≡_};
 ghost use Rattle.rules.specs.State.{resetCore, resetRegisters};
 use line::numbers::CODE_AT_RESET;
-use place::Frame;
 use rules::state::Core;
 use rules::state::Registers;
 
@@ -38,7 +37,7 @@ pub(crate) fn reset_core() -> Core
     ensures { λ r. ⌜ r ≡ resetCore ⌝ }
 {
     let regs = reset_registers();
-    let frame = Frame::none();
+    let frame = moves::none();
     Core {
         regs,
         frame,

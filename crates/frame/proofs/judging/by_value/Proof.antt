@@ -4,7 +4,7 @@ use Prim.Native.Nat.{ℕ}
 use native.Mathlib.Omega.{arith}
 use lib.ListN.{List·getD-eq-default}
 use Rattle.place.specs.Slaves.{controls}
-use Rattle.place.specs.declared.control.Judged.the-variants.{Nak, Sends}
+use Rattle.place.specs.declared.Judged.the-variants.{Nak, Sends}
 use Rattle.frame.proofs.Values.{of-two, of-pair}
 use Rattle.place.specs.Slaves.{byValue}
 use borrow.Author.Needs.{needs}
