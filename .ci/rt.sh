@@ -8,15 +8,6 @@ rt_jobs() {
     echo "${RT_JOBS:-$rt_processors}"
 }
 
-# keep_busy: `rt` waits for the slowest of the checks that it has started, with a processor idle meanwhile. So it is to
-# start twice as many as there are processors, where each has the 2 GB that the largest may take; RT_JOBS may say else.
-keep_busy() {
-    rt_memory=$(awk '$1 == "MemAvailable:" { print int($2 / 2000000) }' /proc/meminfo 2>/dev/null)
-    [ -z "${RT_JOBS:-}" ] && [ "$((2 * $(rt_jobs)))" -le "${rt_memory:-0}" ] || return 0
-    RT_JOBS=$((2 * $(rt_jobs)))
-    export RT_JOBS
-}
-
 # crates_with below|above NAME..: these crates and all that they rest on, or all that rest on them, in the order of
 # crates.txt; without a name, all crates
 crates_with() {
