@@ -10,10 +10,12 @@ ghost use Rattle.rules.specs.Registers.{mcrWritten, rcrByte, readRefusal, readV
 ghost use Rattle.rules.specs.Registers.{strByte, tbfRefusal, uar1Written, uarRefusal, writeRefusal, written};
 ghost use Rattle.rules.specs.Set.{registers·lor1, registers·lor2, registers·own, registers·slave};
 ghost use Rattle.rules.specs.Set.{registers·slre, registers·strq};
+ghost use Rattle.rules.specs.State.{resetCore, resetRegisters};
 use line::numbers::CMR_CLEAR_SLRE;
 use line::numbers::CMR_COPY_LOCK;
 use line::numbers::CMR_OFFER;
 use line::numbers::CMR_REQUEST;
+use line::numbers::CODE_AT_RESET;
 use line::numbers::CTR_NOTHING;
 use line::numbers::CTR_RESET;
 use line::numbers::CTR_SET_SLRE;
@@ -43,6 +45,7 @@ use line::numbers::REG_UAR1;
 use line::numbers::REG_UAR2;
 use line::numbers::TBF_BYTES;
 use moves::writes;
+use rules::state::Core;
 use rules::state::Registers;
 
 // "CTR (00H nothing, 08H reset, 10H set SLRE)".
@@ -325,5 +328,45 @@ pub fn read_value(regs: Registers, waiting: usize, stored: usize, register: u8) 
         REG_LOR1 => regs.lor1,
         REG_LOR2 => regs.lor2,
         _ => rcr_byte(regs),
+    }
+}
+
+// "Reset: RCR FFH, MCR 80H, all else zero or empty".
+fn reset_registers() -> Registers
+    ensures { λ r. ⌜ r ≡ resetRegisters ⌝ }
+{
+    Registers {
+        own: 0,
+        enabled: false,
+        long: false,
+        slave: 0,
+        bit: true,
+        retries: 0,
+        control: 0,
+        marq: false,
+        strq: false,
+        slre: false,
+        losses: 0,
+        lor1: 0,
+        lor2: 0,
+        rdr1: 0,
+        rdr2: 0,
+        marc: CODE_AT_RESET,
+        slrc: CODE_AT_RESET,
+        locked: false,
+        holder: 0,
+    }
+}
+
+// ".. waiting for a start, idle not seen."
+pub fn reset_core() -> Core
+    ensures { λ r. ⌜ r ≡ resetCore ⌝ }
+{
+    let regs = reset_registers();
+    let frame = moves::none();
+    Core {
+        regs,
+        frame,
+        idle: false,
     }
 }
