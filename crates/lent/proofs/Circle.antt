@@ -5,13 +5,19 @@ use mathlib.Core.Bool.{Bool, true, false}
 use mathlib.Core.List.{List, [], _∷_, _++_}
 use mathlib.Core.Logic.{_⊎_, inl, inr, ⊎-elim}
 use mathlib.Core.Path.{_≡_, refl, sym, ap, ap₂, _∙_}
-use borrow.Author.Tests.{ltb-true, ltb-false, lt-ltb}
-use lib.Dec.{ltb}
-use lib.ListN.{length, getD, set, drop}
+use borrow.Author.Tests.{eqb-false, eqb-true, le-ltb, lt-ltb, ltb-false, ltb-true}
+use lib.Dec.{eqb, ltb}
+use lib.ListN.{length, getD, set, drop, length-set}
 use lib.Seq.{getD-set-same, getD-set-other}
 use Rattle.line.specs.Choice.{pick}
-use Rattle.lent.specs.Queue.{wrap, startOf, heldOf, items}
-use Rattle.rules.specs.State.{pushOf}
+use Rattle.line.specs.Numbers.{rbfBytes, tbfBytes}
+use Rattle.lent.specs.Buffers.{Buffer, listOf, popped, pushed, put, sentBy, storedBy}
+use Rattle.lent.specs.Queue.{wrap, startOf, heldOf, items, circleOf}
+use Rattle.lent.specs.declared.buffers.Span.{Span}
+use Rattle.rules.specs.State.{pushOf, rbfAfter, tbfAfter}
+use Rattle.rules.specs.declared.state.Act.{Act}
+use Rattle.rules.specs.declared.state.Act.the-variants.{Nothing, Take, Empty, Header, Byte}
+use Rattle.rules.proofs.Calm.{pick-no}
 
 -- ---- places
 
@@ -59,6 +65,9 @@ start-same n f h = ⊎-elim (λ w. w .1) (λ w. omega arith) (picked f n f 0)
 held-same : (n k : ℕ) → k ≤ n → heldOf n k ≡ k
 held-same n k h = ⊎-elim (λ w. w .1) (λ w. omega arith) (picked k n k n)
 
+held-full : (n k : ℕ) → n ≤ k → heldOf n k ≡ n
+held-full n k h = ⊎-elim (λ w. omega arith) (λ w. w .1) (picked k n k n)
+
 held-least : (n k : ℕ) → heldOf n k ≤ n
 held-least n k = ⊎-elim (λ w. omega arith) (λ w. omega arith) (picked k n k n)
 
@@ -97,7 +106,7 @@ items-rest n bytes f (suc k) h = let e : suc k - 1 ≡ k = omega arith in ap (it
 
 -- ---- buffers
 
-pub circle-push : (n : ℕ) (bytes : List ℕ) (f k x : ℕ) → length bytes ≡ n → k < n
+circle-push : (n : ℕ) (bytes : List ℕ) (f k x : ℕ) → length bytes ≡ n → k < n
     → items n (set bytes (wrap n (startOf n f + k)) x) (startOf n f) (heldOf n (k + 1))
     ≡ pushOf n (items n bytes (startOf n f) (heldOf n k)) x
 unfolding pushOf
@@ -110,7 +119,7 @@ pub circle-front : (n : ℕ) (bytes : List ℕ) (f k : ℕ) → 0 < n → 0 < k
     → getD bytes f 0 ≡ getD (items n bytes f (heldOf n k)) 0 0
 circle-front n bytes f k h j = items-first n bytes f (heldOf n k) (held-some n k h j)
 
-pub circle-pop : (n : ℕ) (bytes : List ℕ) (f k m : ℕ) → 1 < n → m ≡ heldOf n k → 0 < m
+circle-pop : (n : ℕ) (bytes : List ℕ) (f k m : ℕ) → 1 < n → m ≡ heldOf n k → 0 < m
     → items n bytes (startOf n (wrap n (startOf n f + 1))) (heldOf n (m - 1))
     ≡ drop 1 (items n bytes (startOf n f) (heldOf n k))
 circle-pop n bytes f k m h e j =
@@ -124,6 +133,75 @@ circle-pop n bytes f k m h e j =
     (items-rest n bytes (startOf n f) m j)
 
 -- without bytes there is none to leave
-pub none-left : (bytes : List ℕ) → length bytes ≡ 0 → bytes ≡ drop 1 bytes
+none-left : (bytes : List ℕ) → length bytes ≡ 0 → bytes ≡ drop 1 bytes
 none-left [] h = refl
 none-left (x ∷ bytes) h = absurd (let b : ⊥ = omega arith in b)
+
+pub push-list : (n : ℕ) (b : Buffer) (x : ℕ) → length (b .bytes) ≡ n
+    → listOf n (pushed n b x) ≡ pushOf n (listOf n b) x
+unfolding circleOf pushed pushOf
+push-list n b x l = by (ltb (b .span .count) n) refl
+  where
+    by : (t : Bool) → ltb (b .span .count) n ≡ t → listOf n (pick t (put n b x) b) ≡ pushOf n (listOf n b) x
+    by true e = circle-push n (b .bytes) (b .span .first) (b .span .count) x l (ltb-true _ n e)
+    by false e =
+        let full : length (listOf n b) ≡ n = items-length n (b .bytes) _ _ ∙ held-full n _ (ltb-false _ n e) in
+        sym (pick-no (ltb (length (listOf n b)) n) _ _ (ap (λ (k : ℕ). ltb k n) full ∙ le-ltb n n (omega arith)))
+
+pub push-length : (n : ℕ) (b : Buffer) (x : ℕ) → length (pushed n b x .bytes) ≡ length (b .bytes)
+unfolding pushed
+push-length n b x = by (ltb (b .span .count) n)
+  where
+    by : (t : Bool) → length (pick t (put n b x) b .bytes) ≡ length (b .bytes)
+    by true = length-set (b .bytes) _ x
+    by false = refl
+
+pub push-alike : (n x : ℕ) {a b : Buffer} → a ≡ b → pushed n a x ≡ pushed n b x
+push-alike n x e = ap (λ (c : Buffer). pushed n c x) e
+
+pub pop-list : (n : ℕ) → 1 < n → (bytes : List ℕ) (span : Span)
+    → circleOf n bytes (popped n span) ≡ drop 1 (circleOf n bytes span)
+unfolding circleOf popped
+pop-list n h bytes span = by (eqb (heldOf n (span .count)) 0) refl
+  where
+    next : Span
+    next = record { first = wrap n (startOf n (span .first) + 1); count = heldOf n (span .count) - 1 }
+
+    by : (t : Bool) → eqb (heldOf n (span .count)) 0 ≡ t
+        → circleOf n bytes (pick t span next) ≡ drop 1 (circleOf n bytes span)
+    by true e = none-left _ (items-length n bytes _ _ ∙ eqb-true _ 0 e)
+    by false e =
+        circle-pop n bytes (span .first) (span .count) (heldOf n (span .count)) h refl (omega (arith, eqb-false (heldOf n (span .count)) 0 e))
+
+-- ---- what a slot does to them
+
+pub sent-list : (act : Act) (bytes : List ℕ) (span : Span)
+    → circleOf tbfBytes bytes (sentBy act span) ≡ tbfAfter act (circleOf tbfBytes bytes span)
+unfolding sentBy tbfAfter circleOf items
+sent-list Nothing bytes span = refl
+sent-list Take bytes span = pop-list tbfBytes (omega arith) bytes span
+sent-list Empty bytes span = refl
+sent-list (Header a b c) bytes span = refl
+sent-list (Byte b) bytes span = refl
+
+pub stored-length : (act : Act) (b : Buffer) → length (storedBy act b .bytes) ≡ length (b .bytes)
+unfolding storedBy
+stored-length Nothing b = refl
+stored-length Take b = refl
+stored-length Empty b = refl
+stored-length (Header x y z) b = push-length _ _ z ∙ push-length _ _ y ∙ push-length _ b x
+stored-length (Byte x) b = push-length _ b x
+
+pub stored-list : (act : Act) (b : Buffer) → length (b .bytes) ≡ rbfBytes
+    → listOf rbfBytes (storedBy act b) ≡ rbfAfter act (listOf rbfBytes b)
+unfolding storedBy rbfAfter
+stored-list Nothing b full = refl
+stored-list Take b full = refl
+stored-list Empty b full = refl
+stored-list (Header x y z) b full =
+    let one = push-length rbfBytes b x ∙ full in
+    let two = push-length rbfBytes (pushed rbfBytes b x) y ∙ one in
+    push-list rbfBytes (pushed rbfBytes (pushed rbfBytes b x) y) z two
+    ∙ ap (λ (bytes : List ℕ). pushOf rbfBytes bytes z) (push-list rbfBytes (pushed rbfBytes b x) y one
+    ∙ ap (λ (bytes : List ℕ). pushOf rbfBytes bytes y) (push-list rbfBytes b x full))
+stored-list (Byte x) b full = push-list rbfBytes b x full

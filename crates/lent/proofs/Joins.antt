@@ -2,127 +2,156 @@
 use Prim.Native.Nat.{ℕ, _/_, _%_}
 use mathlib.Core.Bool.{true, false, _&&_}
 use mathlib.Core.Logic.{⊎-elim}
-use mathlib.Core.Path.{_≡_, refl, sym, subst}
+use mathlib.Core.List.{List}
+use mathlib.Core.Path.{_≡_, refl, sym, ap, subst}
 use lib.Dec.{T, eqb}
-use lib.ListN.{drop, getD, length}
-use Rattle.line.specs.Numbers.{kindSlot, kindRead, kindWrite, refusedKind, refusedStrayBit, tbfBytes}
+use lib.ListN.{getD, length}
+use Rattle.line.specs.Numbers.{kindSlot, kindRead, kindWrite, rbfBytes, refusedKind, refusedStrayBit, tbfBytes}
 use Rattle.line.specs.Slot.{classOf, kindOf, slotOf}
 use Rattle.line.specs.declared.slot.Slot.{Slot}
 use Rattle.line.specs.declared.slot.Slot.the-variants.{Level, Start, Idle, Stray}
 use Rattle.line.proofs.Either.{either}
-use Rattle.lent.specs.Both.{afterDone, afterHost, afterRead, afterSlot, afterTold, afterWord, afterWrite}
-use Rattle.lent.specs.Both.{gaveIn, refusedIn, slotActed, slotRefusal, takenIn, writtenIn}
-use Rattle.rules.specs.Registers.{gave, readRefusal, readTold, readValue, registerOf, toldOf, valueOf, writeDone}
+use Rattle.lent.specs.Both.{afterDone, afterHost, afterRead, afterSlot, afterWord, afterWrite}
+use Rattle.lent.specs.Both.{Both, Runs, Works, answerTo, leftAs, leftBy, loanIn, stateIn}
+use Rattle.lent.specs.declared.step.Answered.{Answered}
+use Rattle.lent.specs.declared.step.Done.{Done}
+use Rattle.lent.specs.declared.step.Lent.{Lent}
+use Rattle.lent.specs.Both.{Loan, gaveIn, loanActed, loanDrawn, loanFilled}
+use Rattle.lent.specs.Both.{loanWritten, refusedIn, slotActed, slotRefusal, takenIn, writtenIn}
+use Rattle.lent.specs.Buffers.{emptied, slotIn, wordIn}
+use Rattle.rules.specs.Registers.{readRefusal, readTold, readValue, registerOf, toldOf, valueOf, writeDone}
 use Rattle.rules.specs.Registers.{writeRefusal, writeTold, written}
-use Rattle.rules.specs.Set.{core·regs}
-use Rattle.rules.specs.State.{State, isEmpty, pushOf, reset}
-use Rattle.rules.specs.Step.{actedOn, answerOf, clashes, slotOn, slotSaid, stepOf}
+use Rattle.rules.specs.State.{isEmpty, reset}
+use Rattle.rules.specs.declared.answer.Answer.{Answer}
+use Rattle.rules.specs.Step.{answerOf, clashes, nextDrive, slotOn, slotSaid, stepOf}
 
 -- ---- slots
 
-pub slot-refused : (s : State) (c : Slot) → eqb (slotRefusal s c) 0 ≡ false
-    → refusedIn s (slotRefusal s c) ≡ afterSlot s c
-unfolding slotOn slotSaid slotRefusal
-slot-refused s (Level bit) some =
-    ⊎-elim (λ (clash : clashes s bit ≡ true). simp clash)
-    (λ (free : clashes s bit ≡ false). absurd (subst T (simp free at some) tt)) (either (clashes s bit))
-slot-refused s Start some = absurd (subst T some tt)
-slot-refused s Idle some = absurd (subst T some tt)
-slot-refused s Stray some = refl
+pub slot-refused : (l : Loan) (c : Slot) → eqb (slotRefusal (l .state) c) 0 ≡ false
+    → refusedIn l (slotRefusal (l .state) c) ≡ afterSlot l c
+unfolding slotOn slotSaid slotIn slotRefusal
+slot-refused l (Level bit) some =
+    ⊎-elim (λ (clash : clashes (l .state) bit ≡ true). simp clash)
+    (λ (free : clashes (l .state) bit ≡ false). absurd (subst T (simp free at some) tt))
+    (either (clashes (l .state) bit))
+slot-refused l Start some = absurd (subst T some tt)
+slot-refused l Idle some = absurd (subst T some tt)
+slot-refused l Stray some = refl
 
-pub slot-taken : (s : State) (c : Slot) → eqb (slotRefusal s c) 0 ≡ true
-    → takenIn (actedOn s (slotActed s c)) ≡ afterSlot s c
-unfolding slotOn slotSaid slotRefusal
-slot-taken s (Level bit) none =
-    ⊎-elim (λ (clash : clashes s bit ≡ true). absurd (subst T (sym (simp clash at none)) tt))
-    (λ (free : clashes s bit ≡ false). simp free) (either (clashes s bit))
-slot-taken s Start none = refl
-slot-taken s Idle none = refl
-slot-taken s Stray none = absurd (subst T (sym none) tt)
+pub slot-taken : (l : Loan) (c : Slot) → eqb (slotRefusal (l .state) c) 0 ≡ true
+    → takenIn (loanActed l (slotActed (l .state) c)) ≡ afterSlot l c
+unfolding slotOn slotSaid slotIn slotRefusal
+slot-taken l (Level bit) none =
+    ⊎-elim (λ (clash : clashes (l .state) bit ≡ true). absurd (subst T (sym (simp clash at none)) tt))
+    (λ (free : clashes (l .state) bit ≡ false). simp free) (either (clashes (l .state) bit))
+slot-taken l Start none = refl
+slot-taken l Idle none = refl
+slot-taken l Stray none = absurd (subst T (sym none) tt)
 
 -- ---- writes
 
-pub done-tbf : (s : State) (register v : ℕ) → eqb register 0xE ≡ true
-    → writtenIn (record { core = s .core; tbf = pushOf tbfBytes (s .tbf) v; rbf = s .rbf }) ≡ afterDone s register v
+pub done-tbf : (l : Loan) (register v : ℕ) → eqb register 0xE ≡ true
+    → writtenIn (loanFilled l v) ≡ afterDone l register v
 unfolding writeDone
-done-tbf s register v tbf = simp tbf
+done-tbf l register v tbf = simp tbf
 
-pub done-reset : (s : State) (register v : ℕ) → eqb register 0xE ≡ false → eqb register 0x0 && eqb v 0x08 ≡ true
-    → writtenIn reset ≡ afterDone s register v
+pub done-reset : (l : Loan) (register v : ℕ) → eqb register 0xE ≡ false → eqb register 0x0 && eqb v 0x08 ≡ true
+    → writtenIn (record { state = reset; buffers = emptied (l .buffers) }) ≡ afterDone l register v
 unfolding writeDone
-done-reset s register v other again = simp (other, again)
+done-reset l register v other again = simp (other, again)
 
-pub done-other : (s : State) (register v : ℕ) → eqb register 0xE ≡ false → eqb register 0x0 && eqb v 0x08 ≡ false
-    → writtenIn (record {
-      core = core·regs (written (s .core .regs) register v) (s .core);
-      tbf = s .tbf;
-      rbf = s .rbf;
-    }) ≡ afterDone s register v
+pub done-other : (l : Loan) (register v : ℕ) → eqb register 0xE ≡ false → eqb register 0x0 && eqb v 0x08 ≡ false
+    → writtenIn (loanWritten l (written (l .state .core .regs) register v)) ≡ afterDone l register v
 unfolding writeDone
-done-other s register v other kept = simp (other, kept)
+done-other l register v other kept = simp (other, kept)
 
-pub write-accepted : (s : State) (register v : ℕ)
-    → eqb (writeRefusal (s .core .regs) (length (s .tbf)) register v) 0 ≡ true
-    → afterDone s register v ≡ afterWrite s register v
+pub write-accepted : (l : Loan) (register v : ℕ)
+    → eqb (writeRefusal (l .state .core .regs) (length (l .state .tbf)) register v) 0 ≡ true
+    → afterDone l register v ≡ afterWrite l register v
 unfolding writeTold
-write-accepted s register v none = simp none
+write-accepted l register v none = simp none
 
-pub write-refused : (s : State) (register v : ℕ)
-    → eqb (writeRefusal (s .core .regs) (length (s .tbf)) register v) 0 ≡ false
-    → refusedIn s (writeRefusal (s .core .regs) (length (s .tbf)) register v) ≡ afterWrite s register v
+pub write-refused : (l : Loan) (register v : ℕ)
+    → eqb (writeRefusal (l .state .core .regs) (length (l .state .tbf)) register v) 0 ≡ false
+    → refusedIn l (writeRefusal (l .state .core .regs) (length (l .state .tbf)) register v) ≡ afterWrite l register v
 unfolding writeTold
-write-refused s register v some = simp some
+write-refused l register v some = simp some
 
 -- ---- reads
 
-pub read-byte : (s : State) (register : ℕ) → eqb (readRefusal register (isEmpty (s .rbf))) 0 ≡ true
+pub read-byte : (l : Loan) (register v : ℕ) → eqb (readRefusal register (isEmpty (l .state .rbf))) 0 ≡ true
     → eqb register 0xE ≡ true
-    → afterTold s (gave (drop 1 (s .rbf)) (getD (s .rbf) 0 0)) ≡ afterRead s register
+    → gaveIn (loanDrawn l) (getD (l .state .rbf) 0 0) ≡ afterRead l register v
 unfolding readTold
-read-byte s register none rbf = simp (none, rbf)
+read-byte l register v none rbf = simp (none, rbf)
 
-pub read-other : (s : State) (register : ℕ) → eqb (readRefusal register (isEmpty (s .rbf))) 0 ≡ true
+pub read-other : (l : Loan) (register v : ℕ) → eqb (readRefusal register (isEmpty (l .state .rbf))) 0 ≡ true
     → eqb register 0xE ≡ false
-    → gaveIn s (readValue (s .core .regs) (length (s .tbf)) (length (s .rbf)) register) ≡ afterRead s register
+    → gaveIn l (readValue (l .state .core .regs) (length (l .state .tbf)) (length (l .state .rbf)) register)
+    ≡ afterRead l register v
 unfolding readTold
-read-other s register none other = simp (none, other)
+read-other l register v none other = simp (none, other)
 
-pub read-refused : (s : State) (register : ℕ) → eqb (readRefusal register (isEmpty (s .rbf))) 0 ≡ false
-    → refusedIn s (readRefusal register (isEmpty (s .rbf))) ≡ afterRead s register
+pub read-refused : (l : Loan) (register v : ℕ) → eqb (readRefusal register (isEmpty (l .state .rbf))) 0 ≡ false
+    → refusedIn l (readRefusal register (isEmpty (l .state .rbf))) ≡ afterRead l register v
 unfolding readTold
-read-refused s register some = simp some
+read-refused l register v some = simp some
 
 -- ---- any word
 
-pub told-write : (s : State) (w : ℕ) → eqb (kindOf w) kindWrite ≡ true → eqb (w / 256 % 65536) 0 ≡ true
-    → afterWrite s (registerOf w) (valueOf w) ≡ afterHost s w
+pub told-write : (l : Loan) (w : ℕ) → eqb (kindOf w) kindWrite ≡ true → eqb (w / 256 % 65536) 0 ≡ true
+    → afterWrite l (registerOf w) (valueOf w) ≡ afterHost l w
 unfolding toldOf
-told-write s w kind plain = simp (kind, plain)
+told-write l w kind plain = simp (kind, plain)
 
-pub told-write-stray : (s : State) (w : ℕ) → eqb (kindOf w) kindWrite ≡ true → eqb (w / 256 % 65536) 0 ≡ false
-    → refusedIn s refusedStrayBit ≡ afterHost s w
+pub told-write-stray : (l : Loan) (w : ℕ) → eqb (kindOf w) kindWrite ≡ true → eqb (w / 256 % 65536) 0 ≡ false
+    → refusedIn l refusedStrayBit ≡ afterHost l w
 unfolding toldOf
-told-write-stray s w kind stray = simp (kind, stray)
+told-write-stray l w kind stray = simp (kind, stray)
 
-pub told-read : (s : State) (w : ℕ) → eqb (kindOf w) kindWrite ≡ false → eqb (kindOf w) kindRead ≡ true
-    → eqb (w % 0x0100_0000) 0 ≡ true → afterRead s (registerOf w) ≡ afterHost s w
+pub told-read : (l : Loan) (w : ℕ) → eqb (kindOf w) kindWrite ≡ false → eqb (kindOf w) kindRead ≡ true
+    → eqb (w % 0x0100_0000) 0 ≡ true → afterRead l (registerOf w) (valueOf w) ≡ afterHost l w
 unfolding toldOf
-told-read s w other kind plain = simp (other, kind, plain)
+told-read l w other kind plain = simp (other, kind, plain)
 
-pub told-read-stray : (s : State) (w : ℕ) → eqb (kindOf w) kindWrite ≡ false → eqb (kindOf w) kindRead ≡ true
-    → eqb (w % 0x0100_0000) 0 ≡ false → refusedIn s refusedStrayBit ≡ afterHost s w
+pub told-read-stray : (l : Loan) (w : ℕ) → eqb (kindOf w) kindWrite ≡ false → eqb (kindOf w) kindRead ≡ true
+    → eqb (w % 0x0100_0000) 0 ≡ false → refusedIn l refusedStrayBit ≡ afterHost l w
 unfolding toldOf
-told-read-stray s w other kind stray = simp (other, kind, stray)
+told-read-stray l w other kind stray = simp (other, kind, stray)
 
-pub told-refused : (s : State) (w : ℕ) → eqb (kindOf w) kindWrite ≡ false → eqb (kindOf w) kindRead ≡ false
-    → refusedIn s refusedKind ≡ afterHost s w
+pub told-refused : (l : Loan) (w : ℕ) → eqb (kindOf w) kindWrite ≡ false → eqb (kindOf w) kindRead ≡ false
+    → refusedIn l refusedKind ≡ afterHost l w
 unfolding toldOf
-told-refused s w one two = simp (one, two)
+told-refused l w one two = simp (one, two)
 
-pub step-slot : (s : State) (w : ℕ) → eqb (kindOf w) kindSlot ≡ true → afterSlot s (slotOf w) ≡ afterWord s w
-unfolding stepOf answerOf classOf
-step-slot s w kind = simp kind
+pub step-slot : (l : Loan) (w : ℕ) → eqb (kindOf w) kindSlot ≡ true → afterSlot l (slotOf w) ≡ afterWord l w
+unfolding stepOf answerOf wordIn classOf
+step-slot l w kind = simp kind
 
-pub step-host : (s : State) (w : ℕ) → eqb (kindOf w) kindSlot ≡ false → afterHost s w ≡ afterWord s w
-unfolding stepOf answerOf classOf
-step-host s w kind = simp kind
+pub step-host : (l : Loan) (w : ℕ) → eqb (kindOf w) kindSlot ≡ false → afterHost l w ≡ afterWord l w
+unfolding stepOf answerOf wordIn classOf
+step-host l w kind = simp kind
+
+-- ---- all that is left
+
+-- state, answer and arrays together are what `step` promises
+pub runs : {u : Lent} {w : ℕ} {t t' r r' : List ℕ} {a : Answered} → length t' ≡ length t → length r' ≡ length r
+    → (length t ≡ tbfBytes → length r ≡ rbfBytes
+    → record { loan = loanIn (a .lent) t' r'; answer = a .answer } ≡ afterWord (loanIn u t r) w)
+    → Runs u w t t' r r' a
+unfolding leftBy
+runs sent stored word =
+    record {
+      tbf-kept = sent;
+      rbf-kept = stored;
+      state = λ ft fr. ap (λ (b : Both). b .loan .state) (word ft fr);
+      answer = λ ft fr. ap (λ (b : Both). b .answer) (word ft fr);
+      whole = λ ft fr. ap (λ (b : Both). leftAs (b .loan .state) (b .answer) (b .loan .buffers)) (word ft fr);
+    }
+
+-- the answer, from what the word came to and what is then driven
+pub runs-said : {u : Lent} {w : ℕ} {t t' r r' : List ℕ} {answer : Answer} (d : Done) (drive : ℕ)
+    → Works u w t t' r r' d → drive ≡ nextDrive (stateIn (d .lent) t' r') → answer ≡ answerTo (d .outcome) drive
+    → Runs u w t t' r r' (record { lent = d .lent; answer = answer })
+runs-said d drive (sent, stored, word) driven said =
+    runs sent stored (λ ft fr. rw (said, driven) (word ft fr))

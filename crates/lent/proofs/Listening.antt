@@ -28,13 +28,14 @@ use Rattle.rules.specs.declared.state.Act.the-variants.{Nothing}
 use Rattle.rules.specs.declared.state.Acted.{Acted}
 use Rattle.rules.specs.declared.state.Core.{Core}
 use Rattle.rules.specs.declared.state.Seen.{Seen}
-use Rattle.lent.specs.Both.{afterSlot, afterWord, slotRefusal, takenIn}
+use Rattle.lent.specs.Buffers.{sentBy, storedBy, wordIn}
+use Rattle.lent.specs.Both.{Loan, afterSlot, afterWord, loanActed, slotRefusal, takenIn}
 use Rattle.rules.specs.Endings.{acted}
 use Rattle.lent.specs.Plain.{amidAt, amidOf, insideOf, listenedAt, listenedOf, plainAt, plainCore, plainOf}
-use Rattle.lent.specs.Plain.{tookOn}
+use Rattle.lent.specs.Plain.{loanTook, tookOn}
 use Rattle.rules.specs.Slots.{coreDrive, driveAt, onEvent, onLevel}
-use Rattle.rules.specs.State.{State, isEmpty, rbfAfter, seenOf, takesPart, tbfAfter, viewOf}
-use Rattle.rules.specs.Step.{actedOn, answerOf, clashes, nextDrive, stepOf}
+use Rattle.rules.specs.State.{isEmpty, rbfAfter, seenOf, takesPart, tbfAfter, viewOf}
+use Rattle.rules.specs.Step.{answerOf, clashes, nextDrive, stepOf}
 use Rattle.rules.proofs.Calm.{pick-no, pick-yes}
 use Rattle.lent.proofs.Joins.{slot-taken}
 
@@ -180,48 +181,51 @@ acts-agreeing c bit seen e d =
 -- ---- the word
 
 -- a level that is not refused and is only taken in
-only-taken-in : (s : State) (bit : Bool) → clashes s bit ≡ false
-    → onLevel (s .core) bit (seenOf (s .tbf) (s .rbf)) ≡ acted Nothing (plainCore (s .core) bit)
-    → takenIn (tookOn s bit) ≡ afterSlot s (Level bit)
-unfolding slotRefusal tbfAfter rbfAfter
-only-taken-in s bit free acts =
-    ap (λ (a : Acted). takenIn (actedOn s a)) (sym acts) ∙ slot-taken s (Level bit) (rw free refl)
+only-taken-in : (l : Loan) (bit : Bool) → clashes (l .state) bit ≡ false
+    → onLevel (l .state .core) bit (seenOf (l .state .tbf) (l .state .rbf))
+    ≡ acted Nothing (plainCore (l .state .core) bit)
+    → takenIn (loanTook l bit) ≡ afterSlot l (Level bit)
+unfolding slotRefusal tbfAfter rbfAfter sentBy storedBy
+only-taken-in l bit free acts =
+    ap (λ (a : Acted). takenIn (loanActed l a)) (sym acts) ∙ slot-taken l (Level bit) (rw free refl)
 
 level-word : (P : ℕ → Type 0) (w : ℕ) → leb w 1 ≡ true → P 0 → P 1 → P w
 level-word P w level low high =
     by-value P w 0 low (λ other. subst P (omega (arith, leb-true w 1 level, eqb-false w 0 other)) high)
 
-plain-slot : (s : State) (bit : Bool) → plainOf (s .core .frame) ≡ true
-    → record { state = tookOn s bit; answer = Given (Taken driveReleased) } ≡ afterSlot s (Level bit)
+plain-slot : (l : Loan) (bit : Bool) → plainOf (l .state .core .frame) ≡ true
+    → record { loan = loanTook l bit; answer = Given (Taken driveReleased) } ≡ afterSlot l (Level bit)
 unfolding clashes nextDrive
-plain-slot s bit e =
+plain-slot l bit e =
+    let s = l .state in
     let clear = isEmpty (s .rbf) in
-    ap (λ (d : ℕ). record { state = tookOn s bit; answer = Given (Taken d) })
+    ap (λ (d : ℕ). record { loan = loanTook l bit; answer = Given (Taken d) })
     (sym (released-after (s .core) clear bit e))
-    ∙ only-taken-in s bit (rw (not-low (s .core) clear e) (and-false bit))
+    ∙ only-taken-in l bit (rw (not-low (s .core) clear e) (and-false bit))
     (acts-plainly (s .core) bit (seenOf (s .tbf) (s .rbf)) e)
 
-agreed-slot : (s : State) (bit : Bool) → amidOf (s .core .frame) ≡ true → nextDrive s ≡ bitOf bit
-    → takenIn (tookOn s bit) ≡ afterSlot s (Level bit)
+agreed-slot : (l : Loan) (bit : Bool) → amidOf (l .state .core .frame) ≡ true → nextDrive (l .state) ≡ bitOf bit
+    → takenIn (loanTook l bit) ≡ afterSlot l (Level bit)
 unfolding clashes nextDrive
-agreed-slot s bit e d =
-    only-taken-in s bit (free bit d) (acts-agreeing (s .core) bit (seenOf (s .tbf) (s .rbf)) e d)
+agreed-slot l bit e d =
+    only-taken-in l bit (free bit d)
+    (acts-agreeing (l .state .core) bit (seenOf (l .state .tbf) (l .state .rbf)) e d)
   where
-    free : (b : Bool) → coreDrive (s .core) (isEmpty (s .rbf)) ≡ bitOf b
-        → b && eqb (coreDrive (s .core) (isEmpty (s .rbf))) driveLow ≡ false
+    free : (b : Bool) → coreDrive (l .state .core) (isEmpty (l .state .rbf)) ≡ bitOf b
+        → b && eqb (coreDrive (l .state .core) (isEmpty (l .state .rbf))) driveLow ≡ false
     free true d = rw d refl
     free false d = refl
 
-pub plain-word : (s : State) (w : ℕ) → leb w 1 ≡ true → plainOf (s .core .frame) ≡ true
-    → record { state = tookOn s (eqb w 1); answer = Given (Taken driveReleased) } ≡ afterWord s w
-unfolding stepOf answerOf classOf slotOf
-plain-word s w level e =
-    level-word (λ (k : ℕ). record { state = tookOn s (eqb k 1); answer = Given (Taken driveReleased) } ≡ afterWord s k)
-    w level (plain-slot s false e) (plain-slot s true e)
+pub plain-word : (l : Loan) (w : ℕ) → leb w 1 ≡ true → plainOf (l .state .core .frame) ≡ true
+    → record { loan = loanTook l (eqb w 1); answer = Given (Taken driveReleased) } ≡ afterWord l w
+unfolding stepOf answerOf wordIn classOf slotOf
+plain-word l w level e =
+    level-word (λ (k : ℕ). record { loan = loanTook l (eqb k 1); answer = Given (Taken driveReleased) } ≡ afterWord l k)
+    w level (plain-slot l false e) (plain-slot l true e)
 
-pub agreed-word : (s : State) (w : ℕ) → leb w 1 ≡ true → amidOf (s .core .frame) ≡ true
-    → eqb (nextDrive s) w ≡ true → takenIn (tookOn s (eqb w 1)) ≡ afterWord s w
-unfolding stepOf answerOf classOf slotOf
-agreed-word s w level e d =
-    level-word (λ (k : ℕ). eqb (nextDrive s) k ≡ true → takenIn (tookOn s (eqb k 1)) ≡ afterWord s k) w level
-    (λ zero. agreed-slot s false e (eqb-true _ _ zero)) (λ one. agreed-slot s true e (eqb-true _ _ one)) d
+pub agreed-word : (l : Loan) (w : ℕ) → leb w 1 ≡ true → amidOf (l .state .core .frame) ≡ true
+    → eqb (nextDrive (l .state)) w ≡ true → takenIn (loanTook l (eqb w 1)) ≡ afterWord l w
+unfolding stepOf answerOf wordIn classOf slotOf
+agreed-word l w level e d =
+    level-word (λ (k : ℕ). eqb (nextDrive (l .state)) k ≡ true → takenIn (loanTook l (eqb k 1)) ≡ afterWord l k) w
+    level (λ zero. agreed-slot l false e (eqb-true _ _ zero)) (λ one. agreed-slot l true e (eqb-true _ _ one)) d

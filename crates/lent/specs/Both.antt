@@ -1,5 +1,5 @@
--- A unit whose buffers are lent as a state; and, for what its functions promise each other, the
--- state after a word together with the answer.
+-- A unit whose buffers are lent, as a state, with the lent arrays; and, for what its functions promise each other, all
+-- that is left after a word together with the answer.
 use Prim.Native.Nat.{ℕ}
 use mathlib.Core.Bool.{Bool}
 use mathlib.Core.List.{List}
@@ -16,24 +16,62 @@ use Rattle.lent.specs.declared.answer.Outcome.the-variants.{Taken as too
 use Rattle.lent.specs.declared.answer.Outcome.the-variants.{Refused as denied}
 use Rattle.rules.specs.declared.answer.Reply.the-variants.{Taken, Written, Read}
 use Rattle.rules.specs.declared.state.Acted.{Acted}
+use Rattle.rules.specs.declared.state.Registers.{Registers}
 use Rattle.rules.specs.declared.state.Seen.{Seen}
 use Rattle.lent.specs.declared.step.Answered.{Answered}
 use Rattle.lent.specs.declared.step.Done.{Done}
 use Rattle.lent.specs.declared.step.Lent.{Lent}
+use Rattle.lent.specs.Buffers.{Buffers, actedIn, buffer, drawn, filled, slotIn, toldIn, vacant, wordIn}
 use Rattle.lent.specs.Queue.{circleOf}
-use Rattle.rules.specs.Registers.{Told, toldOf, readTold, writeDone, writeTold}
+use Rattle.rules.specs.Registers.{Told, readTold, registerOf, toldOf, valueOf, writeDone, writeTold}
 use Rattle.rules.specs.Slots.{onSlot}
-use Rattle.rules.specs.State.{State, reset, seenOf}
+use Rattle.rules.specs.Set.{core·regs}
+use Rattle.rules.specs.State.{State, pushOf, resetCore, seenOf}
 use Rattle.rules.specs.Step.{actedOn, answerOf, clashes, nextDrive, slotOn, slotSaid, stepOf, toldOn, toldSaid}
 
 -- a unit whose buffers are lent: the bytes of TBF and of RBF
 abbrev pub stateIn : Lent → List ℕ → List ℕ → State
 stateIn u t r = record { core = u .core; tbf = circleOf tbfBytes t (u .tbf); rbf = circleOf rbfBytes r (u .rbf) }
 
--- ---- a state and an answer
+abbrev pub buffersIn : Lent → List ℕ → List ℕ → Buffers
+buffersIn u t r = record { tbf = buffer t (u .tbf); rbf = buffer r (u .rbf) }
+
+-- ---- all that a word leaves
+
+pub record Left : Type 0 where
+  pub lent : Lent
+  pub answer : Answer
+  pub tbf : List ℕ
+  pub rbf : List ℕ
+
+abbrev pub leftIn : Answered → List ℕ → List ℕ → Left
+leftIn a t r = record { lent = a .lent; answer = a .answer; tbf = t; rbf = r }
+
+abbrev pub leftAs : State → Answer → Buffers → Left
+leftAs s answer b =
+    record {
+      lent = record { core = s .core; tbf = b .tbf .span; rbf = b .rbf .span };
+      answer = answer;
+      tbf = b .tbf .bytes;
+      rbf = b .rbf .bytes;
+    }
+
+-- scalars and answer are those of the rules; the arrays and their spans are those of `Buffers.antt`
+unfoldable pub leftBy : Lent → ℕ → List ℕ → List ℕ → Left
+leftBy u w t r =
+    let s = stateIn u t r in leftAs (stepOf s w) (answerOf s w) (wordIn s w (buffersIn u t r))
+
+-- ---- a state with its arrays, and an answer
+
+pub record Loan : Type 0 where
+  pub state : State
+  pub buffers : Buffers
+
+abbrev pub loanIn : Lent → List ℕ → List ℕ → Loan
+loanIn u t r = record { state = stateIn u t r; buffers = buffersIn u t r }
 
 pub record Both : Type 0 where
-  pub state : State
+  pub loan : Loan
   pub answer : Answer
 
 -- what a word came to, with what the unit then drives
@@ -48,40 +86,85 @@ done u outcome = record { lent = u; outcome = outcome }
 
 abbrev pub bothIn : Done → List ℕ → List ℕ → Both
 bothIn d t r =
-    let s = stateIn (d .lent) t r in record { state = s; answer = answerTo (d .outcome) (nextDrive s) }
+    let l = loanIn (d .lent) t r in record { loan = l; answer = answerTo (d .outcome) (nextDrive (l .state)) }
 
-abbrev pub refusedIn : State → ℕ → Both
-refusedIn s number = record { state = s; answer = Refused number }
+abbrev pub refusedIn : Loan → ℕ → Both
+refusedIn l number = record { loan = l; answer = Refused number }
 
-abbrev pub takenIn : State → Both
-takenIn s = record { state = s; answer = Given (Taken (nextDrive s)) }
+abbrev pub takenIn : Loan → Both
+takenIn l = record { loan = l; answer = Given (Taken (nextDrive (l .state))) }
 
-abbrev pub writtenIn : State → Both
-writtenIn s = record { state = s; answer = Given (Written (nextDrive s)) }
+abbrev pub writtenIn : Loan → Both
+writtenIn l = record { loan = l; answer = Given (Written (nextDrive (l .state))) }
 
-abbrev pub gaveIn : State → ℕ → Both
-gaveIn s value = record { state = s; answer = Given (Read value (nextDrive s)) }
+abbrev pub gaveIn : Loan → ℕ → Both
+gaveIn l value = record { loan = l; answer = Given (Read value (nextDrive (l .state))) }
 
-abbrev pub afterSlot : State → Slot → Both
-afterSlot s c = record { state = slotOn s c; answer = slotSaid s (slotOn s c) c }
+abbrev pub loanActed : Loan → Acted → Loan
+loanActed l a = record { state = actedOn (l .state) a; buffers = actedIn (a .act) (l .buffers) }
 
-abbrev pub afterTold : State → Told → Both
-afterTold s t = record { state = toldOn s t; answer = toldSaid (toldOn s t) t }
+-- a byte more in TBF
+abbrev pub loanFilled : Loan → ℕ → Loan
+loanFilled l v =
+    let s = l .state in
+    record {
+      state = record { core = s .core; tbf = pushOf tbfBytes (s .tbf) v; rbf = s .rbf };
+      buffers = filled (l .buffers) v;
+    }
 
-abbrev pub afterDone : State → ℕ → ℕ → Both
-afterDone s register v = afterTold s (writeDone (s .core .regs) (s .tbf) register v)
+-- other registers
+abbrev pub loanWritten : Loan → Registers → Loan
+loanWritten l regs =
+    let s = l .state in
+    record { state = record { core = core·regs regs (s .core); tbf = s .tbf; rbf = s .rbf }; buffers = l .buffers }
 
-abbrev pub afterWrite : State → ℕ → ℕ → Both
-afterWrite s register v = afterTold s (writeTold (s .core .regs) (s .tbf) register v)
+-- the oldest byte of RBF has left
+abbrev pub loanDrawn : Loan → Loan
+loanDrawn l =
+    let s = l .state in
+    record {
+      state = record { core = s .core; tbf = s .tbf; rbf = drop 1 (s .rbf) };
+      buffers = drawn (l .buffers);
+    }
 
-abbrev pub afterRead : State → ℕ → Both
-afterRead s register = afterTold s (readTold (s .core .regs) (s .tbf) (s .rbf) register)
+abbrev pub afterSlot : Loan → Slot → Both
+afterSlot l c =
+    let s = l .state in
+    record {
+      loan = record { state = slotOn s c; buffers = slotIn s c (l .buffers) };
+      answer = slotSaid s (slotOn s c) c;
+    }
 
-abbrev pub afterHost : State → ℕ → Both
-afterHost s word = afterTold s (toldOf (s .core .regs) (s .tbf) (s .rbf) word)
+-- what a host word did, the register that it names, and the value
+abbrev pub afterTold : Loan → Told → ℕ → ℕ → Both
+afterTold l t register v =
+    let s = l .state in
+    record {
+      loan = record { state = toldOn s t; buffers = toldIn t register v (l .buffers) };
+      answer = toldSaid (toldOn s t) t;
+    }
 
-abbrev pub afterWord : State → ℕ → Both
-afterWord s w = record { state = stepOf s w; answer = answerOf s w }
+abbrev pub afterDone : Loan → ℕ → ℕ → Both
+afterDone l register v = afterTold l (writeDone (l .state .core .regs) (l .state .tbf) register v) register v
+
+abbrev pub afterWrite : Loan → ℕ → ℕ → Both
+afterWrite l register v = afterTold l (writeTold (l .state .core .regs) (l .state .tbf) register v) register v
+
+abbrev pub afterRead : Loan → ℕ → ℕ → Both
+afterRead l register v =
+    afterTold l (readTold (l .state .core .regs) (l .state .tbf) (l .state .rbf) register) register v
+
+abbrev pub afterHost : Loan → ℕ → Both
+afterHost l w =
+    afterTold l (toldOf (l .state .core .regs) (l .state .tbf) (l .state .rbf) w) (registerOf w) (valueOf w)
+
+abbrev pub afterWord : Loan → ℕ → Both
+afterWord l w =
+    let s = l .state in
+    record {
+      loan = record { state = stepOf s w; buffers = wordIn s w (l .buffers) };
+      answer = answerOf s w;
+    }
 
 -- ---- a slot in two steps: the number by which it is refused, or 0, and what it does
 
@@ -96,8 +179,8 @@ slotActed s c = onSlot (s .core) c (seenOf (s .tbf) (s .rbf))
 
 -- ---- what the functions of a unit whose buffers are lent promise, over any bytes that they are not lent
 
-abbrev pub Fresh : Lent → Type 0
-Fresh u = (t r : List ℕ) → stateIn u t r ≡ reset
+abbrev pub resetLent : Lent
+resetLent = record { core = resetCore; tbf = vacant; rbf = vacant }
 
 abbrev pub Drives : Lent → ℕ → Type 0
 Drives u drive = (t r : List ℕ) → drive ≡ nextDrive (stateIn u t r)
@@ -118,52 +201,47 @@ SlotActs u c t acted = (r : List ℕ) → acted ≡ slotActed (stateIn u t r) c
 abbrev pub Acts : Lent → Acted → List ℕ → List ℕ → Done → Type 0
 Acts u acted r r' d =
     (length r' ≡ length r)
-    × ((t : List ℕ) → length r ≡ rbfBytes → bothIn d t r' ≡ takenIn (actedOn (stateIn u t r) acted))
+    × ((t : List ℕ) → length r ≡ rbfBytes → bothIn d t r' ≡ takenIn (loanActed (loanIn u t r) acted))
 
 abbrev pub SlotsOn : Lent → Slot → List ℕ → List ℕ → List ℕ → Done → Type 0
 SlotsOn u c t r r' d =
-    (length r' ≡ length r) × (length r ≡ rbfBytes → bothIn d t r' ≡ afterSlot (stateIn u t r) c)
+    (length r' ≡ length r) × (length r ≡ rbfBytes → bothIn d t r' ≡ afterSlot (loanIn u t r) c)
 
 -- TBF before and after
 abbrev pub Does : Lent → ℕ → ℕ → List ℕ → List ℕ → Done → Type 0
 Does u register v t t' d =
     (length t' ≡ length t)
-    × ((r : List ℕ) → length t ≡ tbfBytes → bothIn d t' r ≡ afterDone (stateIn u t r) register v)
+    × ((r : List ℕ) → length t ≡ tbfBytes → bothIn d t' r ≡ afterDone (loanIn u t r) register v)
 
 abbrev pub WritesTo : Lent → ℕ → ℕ → List ℕ → List ℕ → Done → Type 0
 WritesTo u register v t t' d =
     (length t' ≡ length t)
-    × ((r : List ℕ) → length t ≡ tbfBytes → bothIn d t' r ≡ afterWrite (stateIn u t r) register v)
+    × ((r : List ℕ) → length t ≡ tbfBytes → bothIn d t' r ≡ afterWrite (loanIn u t r) register v)
 
 abbrev pub TakesOut : Lent → List ℕ → Done → Type 0
 TakesOut u r d =
-    (t : List ℕ) → bothIn d t r
-    ≡ gaveIn (record {
-      core = u .core;
-      tbf = circleOf tbfBytes t (u .tbf);
-      rbf = drop 1 (circleOf rbfBytes r
-          (u .rbf));
-    })
-    (getD (circleOf rbfBytes r (u .rbf)) 0 0)
+    (t : List ℕ) → bothIn d t r ≡ gaveIn (loanDrawn (loanIn u t r)) (getD (circleOf rbfBytes r (u .rbf)) 0 0)
 
+-- whatever value stands in the word
 abbrev pub ReadsFrom : Lent → ℕ → List ℕ → Done → Type 0
-ReadsFrom u register r d = (t : List ℕ) → bothIn d t r ≡ afterRead (stateIn u t r) register
+ReadsFrom u register r d = (t : List ℕ) (v : ℕ) → bothIn d t r ≡ afterRead (loanIn u t r) register v
 
 abbrev pub Tells : Lent → ℕ → List ℕ → List ℕ → List ℕ → Done → Type 0
 Tells u word t t' r d =
-    (length t' ≡ length t) × (length t ≡ tbfBytes → bothIn d t' r ≡ afterHost (stateIn u t r) word)
+    (length t' ≡ length t) × (length t ≡ tbfBytes → bothIn d t' r ≡ afterHost (loanIn u t r) word)
 
 -- ---- a word
 
 abbrev pub Works : Lent → ℕ → List ℕ → List ℕ → List ℕ → List ℕ → Done → Type 0
 Works u w t t' r r' d =
     (length t' ≡ length t) × (length r' ≡ length r)
-    × (length t ≡ tbfBytes → length r ≡ rbfBytes → bothIn d t' r' ≡ afterWord (stateIn u t r) w)
+    × (length t ≡ tbfBytes → length r ≡ rbfBytes → bothIn d t' r' ≡ afterWord (loanIn u t r) w)
 
 -- the buffers after it have as many bytes as before; and where they are lent with all their bytes, state and answer
--- are those of the definitions
+-- are those of the rules, and all that is left is that of the definition, each place of the arrays included
 pub record Runs (u : Lent) (w : ℕ) (t t' r r' : List ℕ) (a : Answered) : Type 0 where
   pub tbf-kept : length t' ≡ length t
   pub rbf-kept : length r' ≡ length r
   pub state : length t ≡ tbfBytes → length r ≡ rbfBytes → stateIn (a .lent) t' r' ≡ stepOf (stateIn u t r) w
   pub answer : length t ≡ tbfBytes → length r ≡ rbfBytes → a .answer ≡ answerOf (stateIn u t r) w
+  pub whole : length t ≡ tbfBytes → length r ≡ rbfBytes → leftIn a t' r' ≡ leftBy u w t r

@@ -1,5 +1,6 @@
--- How the structs of the code stand for the state of the rules, what private functions promise each other, and the
--- plainest words.
+-- How the structs of the code stand for the state of the rules, what is written to the lent arrays, what private
+-- functions promise each other, and the plainest words.
 pub mod Queue
+pub mod Buffers
 pub mod Both
 pub mod Plain

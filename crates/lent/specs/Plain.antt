@@ -19,7 +19,7 @@ use Rattle.rules.specs.declared.answer.Reply.the-variants.{Taken}
 use Rattle.rules.specs.declared.state.Core.{Core}
 use Rattle.lent.specs.declared.step.Answered.{Answered}
 use Rattle.lent.specs.declared.step.Lent.{Lent}
-use Rattle.lent.specs.Both.{stateIn, takenIn}
+use Rattle.lent.specs.Both.{Loan, loanIn, stateIn, takenIn}
 use Rattle.rules.specs.Set.{core·frame, core·idle}
 use Rattle.rules.specs.State.{State}
 use Rattle.rules.specs.Step.{nextDrive}
@@ -66,6 +66,9 @@ tookBy u bit = record { core = plainCore (u .core) bit; tbf = u .tbf; rbf = u .r
 abbrev pub tookOn : State → Bool → State
 tookOn s bit = record { core = plainCore (s .core) bit; tbf = s .tbf; rbf = s .rbf }
 
+abbrev pub loanTook : Loan → Bool → Loan
+loanTook l bit = record { state = tookOn (l .state) bit; buffers = l .buffers }
+
 -- the line is released next
 abbrev pub plainly : Lent → Bool → Answered
 plainly u bit = record { lent = tookBy u bit; answer = Given (Taken driveReleased) }
@@ -77,4 +80,4 @@ Agrees u w agrees =
 
 abbrev pub Agreed : Lent → Bool → Answered → Type 0
 Agreed u bit a =
-    (t r : List ℕ) → record { state = stateIn (a .lent) t r; answer = a .answer } ≡ takenIn (tookOn (stateIn u t r) bit)
+    (t r : List ℕ) → record { loan = loanIn (a .lent) t r; answer = a .answer } ≡ takenIn (loanTook (loanIn u t r) bit)

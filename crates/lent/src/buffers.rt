@@ -1,12 +1,13 @@
 // The two buffers, each a lent circle of bytes, and a span that says where its bytes lie: a first place and a count. A
-// count over the room counts as full, and a first place past the end as place 0, so that every value is a buffer. The
-// contracts speak of lists, oldest first.
+// count over the room counts as full, and a first place past the end as place 0, so that every value is a buffer. What
+// changes a buffer says how each place of it stands afterwards; that this is a list, oldest first, are laws
+// (`proofs/Circle.antt`).
 ghost use mathlib.Core.Path.{_≡_};
 ghost use lib.ListN.{getD};
 ghost use Prim.Native.Nat.{_+_, _<_, _≤_};
 ghost use Rattle.line.specs.Numbers.{rbfBytes, tbfBytes};
-ghost use Rattle.lent.specs.Queue.{Clear, Length, Popped, Pushes, SentAfter, StoredAfter, Vacant, circleOf};
-ghost use Rattle.lent.specs.Queue.{heldOf, startOf, wrap};
+ghost use Rattle.lent.specs.Buffers.{buffer, popped, pushed, sentBy, storedBy, vacant};
+ghost use Rattle.lent.specs.Queue.{Clear, Length, circleOf, heldOf, startOf, wrap};
 use line::numbers::RBF_BYTES;
 use line::numbers::TBF_BYTES;
 use rules::state::Act;
@@ -50,7 +51,7 @@ fn behind(room: usize, place: usize, places: usize) -> usize
 
 impl Span {
     pub(crate) fn none() -> Span
-        ensures { λ r. ⌜ Vacant tbfBytes r × Vacant rbfBytes r ⌝ }
+        ensures { λ r. ⌜ r ≡ vacant ⌝ }
     {
         Span { first: 0, count: 0 }
     }
@@ -70,7 +71,7 @@ impl Span {
     // Without the oldest byte.
     pub(crate) fn popped(mut self, room: usize) -> Span
         requires { ⌜ (1 < room) × (room ≤ rbfBytes) ⌝ }
-        ensures { λ r. ⌜ Popped room self r ⌝ }
+        ensures { λ r. ⌜ r ≡ popped room self ⌝ }
     {
         let count = held(room, self.count);
         if count == 0 {
@@ -98,7 +99,7 @@ pub(crate) fn tbf_front(bytes: &[u8; TBF_BYTES], span: Span) -> u8
 
 // A byte behind the others of TBF, where there is room.
 pub(crate) fn tbf_push(bytes: &mut [u8; TBF_BYTES], mut span: Span, byte: u8) -> Span
-    ensures { λ r. ⌜ Pushes tbfBytes span byte (now (bytes .entry)) (now (bytes .exit)) r ⌝ }
+    ensures { λ r. ⌜ buffer (now (bytes .exit)) r ≡ pushed tbfBytes (buffer (now (bytes .entry)) span) byte ⌝ }
 {
     let count = span.count;
     if TBF_BYTES <= count {
@@ -125,7 +126,7 @@ pub(crate) fn rbf_front(bytes: &[u8; RBF_BYTES], span: Span) -> u8
 
 // A byte behind the others of RBF, where there is room.
 pub(crate) fn rbf_push(bytes: &mut [u8; RBF_BYTES], mut span: Span, byte: u8) -> Span
-    ensures { λ r. ⌜ Pushes rbfBytes span byte (now (bytes .entry)) (now (bytes .exit)) r ⌝ }
+    ensures { λ r. ⌜ buffer (now (bytes .exit)) r ≡ pushed rbfBytes (buffer (now (bytes .entry)) span) byte ⌝ }
 {
     let count = span.count;
     if RBF_BYTES <= count {
@@ -140,7 +141,7 @@ pub(crate) fn rbf_push(bytes: &mut [u8; RBF_BYTES], mut span: Span, byte: u8) ->
 
 // What a slot does to TBF.
 pub(crate) fn tbf_after(act: Act, span: Span) -> Span
-    ensures { λ r. ⌜ SentAfter act span r ⌝ }
+    ensures { λ r. ⌜ r ≡ sentBy act span ⌝ }
 {
     match act {
         Act::Nothing => span,
@@ -153,7 +154,7 @@ pub(crate) fn tbf_after(act: Act, span: Span) -> Span
 
 // What a slot does to RBF.
 pub(crate) fn rbf_after(act: Act, bytes: &mut [u8; RBF_BYTES], span: Span) -> Span
-    ensures { λ r. ⌜ StoredAfter act span (now (bytes .entry)) (now (bytes .exit)) r ⌝ }
+    ensures { λ r. ⌜ buffer (now (bytes .exit)) r ≡ storedBy act (buffer (now (bytes .entry)) span) ⌝ }
 {
     match act {
         Act::Nothing => span,

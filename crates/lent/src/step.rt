@@ -1,7 +1,7 @@
 // A unit whose buffers are lent, and what it makes of every word.
 ghost use mathlib.Core.Path.{_≡_};
-ghost use Rattle.lent.specs.Both.{Acts, Clashes, Drives, Fresh, Runs, Sees, SlotActs, SlotRefuses, SlotsOn};
-ghost use Rattle.lent.specs.Both.{Works, done};
+ghost use Rattle.lent.specs.Both.{Acts, Clashes, Drives, Runs, Sees, SlotActs, SlotRefuses, SlotsOn};
+ghost use Rattle.lent.specs.Both.{Works, done, resetLent};
 use crate::answer::Outcome;
 use crate::answer::answer_to;
 use crate::buffers::Span;
@@ -49,7 +49,7 @@ impl Lent {
     // "Reset: RCR FFH, MCR 80H, all else zero or empty, waiting for a start, idle not seen." The bytes lent are of no
     // account.
     pub(crate) fn reset() -> Lent
-        ensures { λ r. ⌜ Fresh r ⌝ }
+        ensures { λ r. ⌜ r ≡ resetLent ⌝ }
     {
         let core = reset_core();
         let tbf = Span::none();

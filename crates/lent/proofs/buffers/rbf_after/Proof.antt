@@ -1,11 +1,12 @@
-use mathlib.Core.Path.{refl, _∙_}
-use Rattle.rules.specs.State.{rbfAfter}
+use mathlib.Core.Path.{_∙_}
 use borrow.Author.Needs.{needs}
+use Rattle.lent.specs.Buffers.{storedBy}
+use Rattle.lent.proofs.Circle.{push-alike}
 use Rattle.lent.proofs.buffers.rbf_after.Statement.{statement}
 use Rattle.lent.proofs.buffers.rbf_after.Tie as tie
 
 pub rbf-after-spec : {M : Type 1} → statement M
-unfolding rbfAfter
+unfolding storedBy
 rbf-after-spec =
     tie.close
     (tie.spec
@@ -18,23 +19,11 @@ rbf-after-spec =
     (λ c κs. search needs)
     (λ c. search needs)
     (λ c κs. search needs)
-    (λ c. (refl, λ full. simp (c .enum-told .given .1)))
-    (λ c. (refl, λ full. simp (c .enum-told2 .given .1)))
-    (λ c. (refl, λ full. simp (c .enum-told3 .given .1)))
-    (λ c. (
-      c .rbf-push3 .ensures .0 ∙ c .before .before .rbf-push2 .ensures .0
-          ∙ c .before .before .before .before .rbf-push .ensures .0,
-      λ full. rw (
-        c .before .before .before .before .before .before .before .act .given .1,
-        c .rbf-push3 .ensures .1 (c .before .before .rbf-push2 .ensures .0
-            ∙ c .before .before .before .before .rbf-push .ensures .0 ∙ full),
-        c .before .before .rbf-push2 .ensures .1
-            (c .before .before .before .before .rbf-push .ensures .0 ∙ full),
-        c .before .before .before .before .rbf-push .ensures .1 full,
-      ) refl,
-    ))
-    (λ c. (
-      c .rbf-push4 .ensures .0,
-      λ full. rw (c .before .before .before .act2 .given .1)
-          (c .rbf-push4 .ensures .1 full),
-    )))
+    (λ c. simp (c .enum-told .given .1))
+    (λ c. simp (c .enum-told2 .given .1))
+    (λ c. simp (c .enum-told3 .given .1))
+    (λ c. rw (c .before .before .before .before .before .before .before .act .given .1)
+    (c .rbf-push3 .ensures
+    ∙ push-alike _ _ (c .before .before .rbf-push2 .ensures
+    ∙ push-alike _ _ (c .before .before .before .before .rbf-push .ensures))))
+    (λ c. rw (c .before .before .before .act2 .given .1) (c .rbf-push4 .ensures)))

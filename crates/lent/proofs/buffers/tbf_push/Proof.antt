@@ -1,18 +1,18 @@
 use borrow.Author.Needs.{needs}
-use borrow.Author.Tests.{le-ltb}
-use lib.ListN.{length-set}
-use mathlib.Core.Path.{refl}
+use borrow.Author.Tests.{le-ltb, lt-ltb}
+use mathlib.Core.Path.{sym}
 use native.Mathlib.Omega.{arith}
 use Rattle.line.specs.Numbers.{tbfBytes}
-use Rattle.lent.specs.Queue.{circleOf, startOf}
-use Rattle.rules.specs.State.{pushOf}
-use Rattle.lent.proofs.Circle.{items-length, circle-push, start-less, wrap-less}
+use Rattle.lent.specs.Buffers.{pushed}
+use Rattle.lent.specs.Queue.{startOf}
+use Rattle.lent.proofs.Circle.{start-less, wrap-less}
+use Rattle.rules.proofs.Calm.{pick-no, pick-yes}
 use Rattle.lent.proofs.buffers.tbf_push.Statement.{statement}
 use Rattle.lent.proofs.buffers.tbf_push.Tie as tie
 
 returns : tie.Need-returns
-unfolding circleOf pushOf
-returns c = (refl, λ full. simp (items-length, le-ltb _ _ (c .if1 .taken)))
+unfolding pushed
+returns c = sym (pick-no _ _ _ (le-ltb _ _ (c .if1 .taken)))
 
 behind-requires : tie.Need-behind-requires
 behind-requires c κs =
@@ -27,14 +27,10 @@ element-write-bytes c =
     (c .before .before .if1 .left))
 
 returns-2 : tie.Need-returns-2
-unfolding circleOf
+unfolding pushed
 returns-2 c =
-    let a = c .before .before .before .args in (
-      length-set (a .bytes .now) _ _,
-      λ full. rw (c .behind .ensures, c .before .start .ensures)
-          (circle-push tbfBytes (a .bytes .now) (a .span .first) (a .span .count) (a .byte) full
-          (c .before .before .if1 .left)),
-    )
+    rw (c .behind .ensures, c .before .start .ensures)
+    (sym (pick-yes _ _ _ (lt-ltb _ _ (c .before .before .if1 .left))))
 
 pub tbf-push-spec : {M : Type 1} → statement M
 tbf-push-spec =

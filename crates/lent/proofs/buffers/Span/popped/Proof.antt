@@ -1,15 +1,20 @@
 use borrow.Author.Needs.{needs}
-use mathlib.Core.Path.{sym, _∙_}
+use borrow.Author.Tests.{eq-eqb, ne-eqb}
+use lib.Dec.{eqb}
+use mathlib.Core.Bool.{false}
+use mathlib.Core.Path.{_≡_, sym, _∙_}
 use native.Mathlib.Omega.{arith}
 use Prim.Native.Nat.{_<_}
-use Rattle.lent.specs.Queue.{circleOf}
-use Rattle.lent.proofs.Circle.{items-length, circle-pop, none-left, start-less}
+use Rattle.lent.specs.Buffers.{popped}
+use Rattle.lent.specs.Queue.{heldOf}
+use Rattle.lent.proofs.Circle.{start-less}
+use Rattle.rules.proofs.Calm.{pick-no, pick-yes}
 use Rattle.lent.proofs.buffers.Span.popped.Statement.{statement}
 use Rattle.lent.proofs.buffers.Span.popped.Tie as tie
 
 returns : tie.Need-returns
-unfolding circleOf
-returns c bytes = none-left _ (items-length _ bytes _ _ ∙ sym (c .before .held .ensures) ∙ c .if1 .taken)
+unfolding popped
+returns c = sym (pick-yes _ _ _ (eq-eqb _ _ (sym (c .before .held .ensures) ∙ c .if1 .taken)))
 
 behind-requires : tie.Need-behind-requires
 behind-requires c κs =
@@ -18,13 +23,13 @@ behind-requires c κs =
     rw (c .start .ensures) (start-less (a .room) (a .self .first) (omega arith), h, c .before .before .before .pre .1)
 
 returns-2 : tie.Need-returns-2
-unfolding circleOf
-returns-2 c bytes =
+unfolding popped
+returns-2 c =
     let a = c .before .before .before .before .args in
     let count = c .before .before .before .held in
-    rw (c .behind .ensures, c .before .start .ensures)
-    (circle-pop (a .room) bytes (a .self .first) (a .self .count) (count .result)
-    (c .before .before .before .before .pre .0) (count .ensures) (omega arith))
+    let some : eqb (heldOf (a .room) (a .self .count)) 0 ≡ false = rw (← count .ensures) (ne-eqb _ _
+    (c .before .before .if1 .left)) in
+    rw (c .behind .ensures, c .before .start .ensures, count .ensures) (sym (pick-no _ _ _ some))
 
 pub popped-spec : {M : Type 1} → statement M
 popped-spec =

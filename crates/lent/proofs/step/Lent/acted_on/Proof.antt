@@ -1,5 +1,9 @@
-use mathlib.Core.Path.{refl}
+use mathlib.Core.Path.{ap, _∙_}
+use lib.ListN.{length}
 use borrow.Author.Needs.{needs}
+use Rattle.lent.specs.Buffers.{Buffer}
+use Rattle.lent.proofs.Changed.{acted-state}
+use Rattle.lent.proofs.Circle.{stored-length}
 use Rattle.lent.proofs.step.Lent.acted_on.Statement.{statement}
 use Rattle.lent.proofs.step.Lent.acted_on.Tie as tie
 
@@ -10,11 +14,9 @@ acted-on-spec =
     (λ c κs. search needs)
     (λ c κs. search needs)
     (λ c κs. search needs)
-    (λ c. (
-      c .before .rbf-after .ensures .0,
-      λ t full. rw (
-        c .done .ensures,
-        c .before .before .before .tbf-after .ensures t,
-        c .before .rbf-after .ensures .1 full,
-      ) refl,
+    (λ c. let a = c .before .before .before .before .before .args in
+    let stored = c .before .rbf-after .ensures in (
+      ap (λ (b : Buffer). length (b .bytes)) stored ∙ stored-length _ _,
+      λ t full. rw (c .done .ensures, c .before .before .before .tbf-after .ensures)
+          (acted-state (a .self) (a .acted) t _ _ _ stored full),
     )))

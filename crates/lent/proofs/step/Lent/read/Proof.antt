@@ -1,7 +1,7 @@
 use borrow.Author.Tests.{eq-eqb, ne-eqb}
 use mathlib.Core.Path.{_∙_}
 use Rattle.lent.proofs.Joins.{read-byte, read-other, read-refused}
-use Rattle.lent.specs.Both.{stateIn}
+use Rattle.lent.specs.Both.{loanIn}
 use borrow.Author.Needs.{needs}
 use Rattle.lent.proofs.step.Lent.read.Statement.{statement}
 use Rattle.lent.proofs.step.Lent.read.Tie as tie
@@ -13,9 +13,9 @@ read-spec =
     (λ c κs. search needs)
     (λ c κs. search needs)
     (λ c κs. search needs)
-    (λ c t. let a = c .before .before .before .before .before .before .before .before .args in
+    (λ c t v. let a = c .before .before .before .before .before .before .before .before .args in
     c .read-rbf .ensures t
-    ∙ read-byte (stateIn (a .self) t (a .rbf .now)) (a .register)
+    ∙ read-byte (loanIn (a .self) t (a .rbf .now)) (a .register) v
     (rw (
       ← c .before .before .before .before .is-empty .ensures (a .rbf .now),
       ← c .before .before .before .read-refusal .ensures,
@@ -25,14 +25,14 @@ read-spec =
     (λ c κs. search needs)
     (λ c κs. search needs)
     (λ c κs. search needs)
-    (λ c t. let a = c .before .before .before .before .before .before .before .before .before .before .before .args in
+    (λ c t v. let a = c .before .before .before .before .before .before .before .before .before .before .before .args in
     rw (
       c .done .ensures,
       c .before .read-value .ensures,
       c .before .before .len2 .ensures (a .rbf .now),
       c .before .before .before .len .ensures t,
     )
-    (read-other (stateIn (a .self) t (a .rbf .now)) (a .register)
+    (read-other (loanIn (a .self) t (a .rbf .now)) (a .register) v
     (rw (
       ← c .before .before .before .before .before .before .before .is-empty .ensures (a .rbf .now),
       ← c .before .before .before .before .before .before .read-refusal .ensures,
@@ -40,12 +40,12 @@ read-spec =
     (c .before .before .before .before .before .if1 .taken)))
     (ne-eqb _ _ (c .before .before .before .before .if2 .left))))
     (λ c κs. search needs)
-    (λ c t. let a = c .before .before .before .before .before .before .before .args in
+    (λ c t v. let a = c .before .before .before .before .before .before .before .args in
     rw (
       c .done2 .ensures,
       c .before .before .read-refusal .ensures,
       c .before .before .before .is-empty .ensures (a .rbf .now),
     )
-    (read-refused (stateIn (a .self) t (a .rbf .now)) (a .register)
+    (read-refused (loanIn (a .self) t (a .rbf .now)) (a .register) v
     (rw (← c .before .before .before .is-empty .ensures (a .rbf .now), ← c .before .before .read-refusal .ensures)
     (ne-eqb _ _ (c .before .if1 .left))))))

@@ -1,5 +1,5 @@
-use mathlib.Core.Path.{refl}
 use borrow.Author.Needs.{needs}
+use Rattle.lent.proofs.Changed.{drawn-state}
 use Rattle.lent.proofs.step.Lent.read_rbf.Statement.{statement}
 use Rattle.lent.proofs.step.Lent.read_rbf.Tie as tie
 
@@ -11,4 +11,5 @@ read-rbf-spec =
     (λ c κs. search needs)
     (λ c κs. search needs)
     (λ c t. let a = c .before .before .before .before .args in
-    rw (c .done .ensures, c .before .popped .ensures (a .rbf .now), c .before .before .rbf-front .ensures) refl))
+    rw (c .done .ensures, c .before .popped .ensures, c .before .before .rbf-front .ensures)
+    (drawn-state (a .self) t (a .rbf .now) _)))

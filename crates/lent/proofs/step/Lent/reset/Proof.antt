@@ -10,4 +10,4 @@ reset-spec =
     (λ c κs. search needs)
     (λ c κs. search needs)
     (λ c κs. search needs)
-    (λ c t r. rw (c .before .before .reset-core .ensures, c .before .none .ensures .0 t, c .none2 .ensures .1 r) refl))
+    (λ c. rw (c .before .before .reset-core .ensures, c .before .none .ensures, c .none2 .ensures) refl))

@@ -1,7 +1,7 @@
 use borrow.Author.Tests.{eq-eqb, ne-eqb}
 use mathlib.Core.Path.{refl, _∙_}
 use Rattle.lent.proofs.Joins.{write-accepted, write-refused}
-use Rattle.lent.specs.Both.{stateIn}
+use Rattle.lent.specs.Both.{loanIn}
 use borrow.Author.Needs.{needs}
 use Rattle.lent.proofs.step.Lent.write.Statement.{statement}
 use Rattle.lent.proofs.step.Lent.write.Tie as tie
@@ -16,7 +16,7 @@ write-spec =
     (λ c. let a = c .before .before .before .before .before .before .before .args in (
       c .write-done .ensures .0,
       λ r full. c .write-done .ensures .1 r full
-          ∙ write-accepted (stateIn (a .self) (a .tbf .now) r) (a .register) (a .v)
+          ∙ write-accepted (loanIn (a .self) (a .tbf .now) r) (a .register) (a .v)
           (rw (
             ← c .before .before .before .before .len .ensures (a .tbf .now),
             ← c .before .before .before .write-refusal .ensures,
@@ -30,7 +30,7 @@ write-spec =
         c .before .before .write-refusal .ensures,
         c .before .before .before .len .ensures (a .tbf .now),
       )
-          (write-refused (stateIn (a .self) (a .tbf .now) r) (a .register) (a .v)
+          (write-refused (loanIn (a .self) (a .tbf .now) r) (a .register) (a .v)
           (rw (
             ← c .before .before .before .len .ensures (a .tbf .now),
             ← c .before .before .write-refusal .ensures,

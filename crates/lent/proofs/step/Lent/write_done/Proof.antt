@@ -1,7 +1,11 @@
 use borrow.Author.Tests.{eq-eqb, ne-eqb}
 use mathlib.Core.Path.{refl, ap, _∙_}
 use Rattle.lent.proofs.Joins.{done-other, done-reset, done-tbf}
-use Rattle.lent.specs.Both.{stateIn, writtenIn}
+use lib.ListN.{length}
+use Rattle.lent.specs.Both.{loanIn, writtenIn}
+use Rattle.lent.specs.Buffers.{Buffer}
+use Rattle.lent.proofs.Changed.{filled-state, reset-state}
+use Rattle.lent.proofs.Circle.{push-length}
 use borrow.Author.Needs.{needs}
 use Rattle.lent.proofs.step.Lent.write_done.Statement.{statement}
 use Rattle.lent.proofs.step.Lent.write_done.Tie as tie
@@ -13,17 +17,17 @@ write-done-spec =
     (λ c κs. search needs)
     (λ c κs. search needs)
     (λ c. let a = c .before .before .before .before .before .args in (
-      c .before .tbf-push .ensures .0,
-      λ r full. rw (c .done .ensures, c .before .tbf-push .ensures .1 full)
-          (done-tbf (stateIn (a .self) (a .tbf .now) r) (a .register)
+      ap (λ (b : Buffer). length (b .bytes)) (c .before .tbf-push .ensures) ∙ push-length _ _ _,
+      λ r full. rw (c .done .ensures) (filled-state (a .self) (a .v) _ _ r _ (c .before .tbf-push .ensures) full
+          ∙ done-tbf (loanIn (a .self) (a .tbf .now) r) (a .register)
           (a .v) (eq-eqb _ _ (c .before .before .before .if1 .taken))),
     ))
     (λ c κs. search needs)
     (λ c κs. search needs)
     (λ c. let a = c .before .before .before .before .before .args in (
       refl,
-      λ r full. rw (c .done2 .ensures) (ap writtenIn (c .before .reset .ensures _ r)
-          ∙ done-reset (stateIn (a .self) (a .tbf .now) r) (a .register) (a .v) (ne-eqb _ _
+      λ r full. rw (c .done2 .ensures, c .before .reset .ensures) (ap writtenIn (reset-state (a .self) _ r)
+          ∙ done-reset (loanIn (a .self) (a .tbf .now) r) (a .register) (a .v) (ne-eqb _ _
           (c .before .before .before .if1 .left)) (c .before .before .if2 .taken)),
     ))
     (λ c κs. search needs)
@@ -32,6 +36,6 @@ write-done-spec =
     (λ c. let a = c .before .before .before .before .before .before .args in (
       refl,
       λ r full. rw (c .done3 .ensures, c .before .with-regs .ensures, c .before .before .write .ensures)
-          (done-other (stateIn (a .self) (a .tbf .now) r) (a .register) (a .v) (ne-eqb _ _
+          (done-other (loanIn (a .self) (a .tbf .now) r) (a .register) (a .v) (ne-eqb _ _
           (c .before .before .before .before .if1 .left)) (c .before .before .before .if2 .left)),
     )))

@@ -1,0 +1,56 @@
+-- What is done to the lent buffers is what the rules do to the lists that they hold.
+use Prim.Native.Nat.{ℕ}
+use native.Mathlib.Omega.{arith}
+use mathlib.Core.List.{List}
+use mathlib.Core.Path.{_≡_, refl, ap, _∙_}
+use lib.ListN.{drop, length}
+use Rattle.line.specs.Numbers.{rbfBytes, tbfBytes}
+use Rattle.lent.specs.Both.{Loan, buffersIn, gaveIn, loanActed, loanDrawn, loanFilled, loanIn, resetLent}
+use Rattle.lent.specs.Both.{takenIn, writtenIn}
+use Rattle.lent.specs.Buffers.{Buffer, Buffers, buffer, emptied, listOf, popped, pushed, sentBy, storedBy}
+use Rattle.lent.specs.Queue.{circleOf, items}
+use Rattle.lent.specs.declared.buffers.Span.{Span}
+use Rattle.lent.specs.declared.step.Lent.{Lent}
+use Rattle.rules.specs.State.{pushOf, reset}
+use Rattle.rules.specs.declared.state.Acted.{Acted}
+use Rattle.rules.specs.declared.state.Core.{Core}
+use Rattle.lent.proofs.Circle.{pop-list, push-list, sent-list, stored-list}
+
+-- a unit of such scalars and buffers
+abbrev loanOf : Core → Buffers → Loan
+loanOf core b =
+    record {
+      state = record { core = core; tbf = listOf tbfBytes (b .tbf); rbf = listOf rbfBytes (b .rbf) };
+      buffers = b;
+    }
+
+-- a slot's act is carried out
+pub acted-state : (u : Lent) (acted : Acted) (t r r' : List ℕ) (stored : Span)
+    → buffer r' stored ≡ storedBy (acted .act) (buffer r (u .rbf)) → length r ≡ rbfBytes
+    → takenIn (loanIn (record { core = acted .core; tbf = sentBy (acted .act) (u .tbf); rbf = stored }) t r')
+    ≡ takenIn (loanActed (loanIn u t r) acted)
+acted-state u acted t r r' stored e full =
+    ap (λ (b : Buffer). takenIn (loanOf (acted .core)
+    (record { tbf = buffer t (sentBy (acted .act) (u .tbf)); rbf = b }))) e
+    ∙ rw (sent-list (acted .act) t (u .tbf), stored-list (acted .act) (buffer r (u .rbf)) full) refl
+
+-- a byte is written to TBF
+pub filled-state : (u : Lent) (v : ℕ) (t t' r : List ℕ) (sent : Span)
+    → buffer t' sent ≡ pushed tbfBytes (buffer t (u .tbf)) v → length t ≡ tbfBytes
+    → writtenIn (loanIn (record { core = u .core; tbf = sent; rbf = u .rbf }) t' r)
+    ≡ writtenIn (loanFilled (loanIn u t r) v)
+filled-state u v t t' r sent e full =
+    ap (λ (b : Buffer). writtenIn (loanOf (u .core) (record { tbf = b; rbf = buffer r (u .rbf) }))) e
+    ∙ rw (push-list tbfBytes (buffer t (u .tbf)) v full) refl
+
+-- the oldest byte of RBF is read
+pub drawn-state : (u : Lent) (t r : List ℕ) (v : ℕ)
+    → gaveIn (loanIn (record { core = u .core; tbf = u .tbf; rbf = popped rbfBytes (u .rbf) }) t r) v
+    ≡ gaveIn (loanDrawn (loanIn u t r)) v
+drawn-state u t r v = rw (pop-list rbfBytes (omega arith) r (u .rbf)) refl
+
+-- a reset
+pub reset-state : (u : Lent) (t r : List ℕ)
+    → loanIn resetLent t r ≡ record { state = reset; buffers = emptied (buffersIn u t r) }
+unfolding circleOf items
+reset-state u t r = refl
