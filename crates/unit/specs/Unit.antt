@@ -1,9 +1,13 @@
--- A unit that holds its buffers, as a state of the rules.
+-- A unit that holds its buffers: as a state of the rules, and whole, each place of its arrays included.
 use Prim.Native.Nat.{ℕ}
 use mathlib.Core.List.{List}
 use Rattle.line.specs.Numbers.{rbfBytes, tbfBytes}
+use lib.ListN.{replicate}
+use Rattle.lent.specs.Both.{leftBy}
+use Rattle.lent.specs.Buffers.{vacant}
 use Rattle.lent.specs.Queue.{circleOf}
-use Rattle.rules.specs.State.{State}
+use Rattle.lent.specs.declared.step.Lent.{Lent}
+use Rattle.rules.specs.State.{State, resetCore}
 use Rattle.unit.specs.declared.buffers.Rbf.{Rbf}
 use Rattle.unit.specs.declared.buffers.Tbf.{Tbf}
 use Rattle.unit.specs.declared.step.Unit.{Unit}
@@ -16,3 +20,31 @@ rbfOf r = circleOf rbfBytes (r .bytes) (r .span)
 
 abbrev pub stateOf : Unit → State
 stateOf u = record { core = u .core; tbf = tbfOf (u .tbf); rbf = rbfOf (u .rbf) }
+
+-- ---- whole
+
+-- its buffers apart from it, and together with it
+abbrev pub lentOf : Unit → Lent
+lentOf u = record { core = u .core; tbf = u .tbf .span; rbf = u .rbf .span }
+
+abbrev pub unitIn : Lent → List ℕ → List ℕ → Unit
+unitIn u t r =
+    record {
+      core = u .core;
+      tbf = record { bytes = t; span = u .tbf };
+      rbf = record { bytes = r; span = u .rbf };
+    }
+
+-- "all else zero or empty"
+abbrev pub resetUnit : Unit
+resetUnit =
+    record {
+      core = resetCore;
+      tbf = record { bytes = replicate tbfBytes 0; span = vacant };
+      rbf = record { bytes = replicate rbfBytes 0; span = vacant };
+    }
+
+-- after a word: what is left where its buffers are lent
+unfoldable pub unitAfter : Unit → ℕ → Unit
+unitAfter u w =
+    let left = leftBy (lentOf u) w (u .tbf .bytes) (u .rbf .bytes) in unitIn (left .lent) (left .tbf) (left .rbf)

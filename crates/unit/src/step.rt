@@ -1,6 +1,6 @@
 // A unit by value: a reset one, and one word.
 ghost use mathlib.Core.Path.{_≡_};
-ghost use Rattle.unit.specs.Unit.{stateOf};
+ghost use Rattle.unit.specs.Unit.{resetUnit, stateOf, unitAfter};
 ghost use Rattle.rules.specs.Refusals.{Ruled};
 ghost use Rattle.rules.specs.State.{reset};
 ghost use Rattle.rules.specs.Step.{answerOf, stepOf};
@@ -30,6 +30,7 @@ pub struct Stepped {
 impl Unit {
     pub fn reset() -> Unit
         ensures { λ r. ⌜ stateOf r ≡ reset ⌝ }
+        ensures whole { λ r. ⌜ r ≡ resetUnit ⌝ }
     {
         let core = reset_core();
         let sent = Span { first: 0, count: 0 };
@@ -52,6 +53,7 @@ impl Unit {
         ensures { λ r. ⌜ stateOf (r .unit) ≡ stepOf (stateOf self) word ⌝ }
         ensures { λ r. ⌜ r .answer ≡ answerOf (stateOf self) word ⌝ }
         ensures refusals { λ r. ⌜ Ruled (stateOf self) word (stateOf (r .unit)) (r .answer) ⌝ }
+        ensures whole { λ r. ⌜ r .unit ≡ unitAfter self word ⌝ }
     {
         let tbf = self.tbf;
         let rbf = self.rbf;

@@ -9,4 +9,4 @@ reset-spec =
     tie.close
     (tie.spec
     (λ c κs. search needs)
-    (λ c. simp (c .reset-core .ensures)))
+    (λ c. (simp (c .reset-core .ensures), simp (c .reset-core .ensures))))

@@ -1,9 +1,13 @@
 use borrow.Author.Needs.{needs}
+use mathlib.Core.Path.{ap}
+use Rattle.lent.specs.Both.{Left}
 use Rattle.rules.proofs.Ruled.{ruled}
+use Rattle.unit.specs.Unit.{unitAfter, unitIn}
 use Rattle.unit.proofs.step.Unit.step.Statement.{statement}
 use Rattle.unit.proofs.step.Unit.step.Tie as tie
 
 returns : tie.Need-returns
+unfolding unitAfter
 returns c =
     let s = c .before .before .before .before .step .ensures in
     let t = c .before .before .before .before .before .before .before .before .before .before .circle .ensures in
@@ -11,7 +15,11 @@ returns c =
       rw (← t .0, ← r .0) (s .state (t .1) (r .1)),
       (
         rw (← t .0, ← r .0) (s .answer (t .1) (r .1)),
-        rw (← t .0, ← r .0) (ruled _ _ _ _ (s .state (t .1) (r .1)) (s .answer (t .1) (r .1))),
+        (
+          rw (← t .0, ← r .0) (ruled _ _ _ _ (s .state (t .1) (r .1)) (s .answer (t .1) (r .1))),
+          rw (← t .0, ← r .0) (ap (λ (left : Left). unitIn (left .lent) (left .tbf) (left .rbf))
+              (s .whole (t .1) (r .1))),
+        ),
       ),
     )
 
