@@ -45,6 +45,6 @@ resetUnit =
     }
 
 -- after a word: what is left where its buffers are lent
-unfoldable pub unitAfter : Unit → ℕ → Unit
-unitAfter u w =
+unfoldable pub unitBy : Unit → ℕ → Unit
+unitBy u w =
     let left = leftBy (lentOf u) w (u .tbf .bytes) (u .rbf .bytes) in unitIn (left .lent) (left .tbf) (left .rbf)

@@ -1,6 +1,6 @@
 // A unit by value: a reset one, and one word.
 ghost use mathlib.Core.Path.{_≡_};
-ghost use Rattle.unit.specs.Unit.{resetUnit, stateOf, unitAfter};
+ghost use Rattle.unit.specs.Unit.{resetUnit, stateOf, unitBy};
 ghost use Rattle.rules.specs.Refusals.{Ruled};
 ghost use Rattle.rules.specs.State.{reset};
 ghost use Rattle.rules.specs.Step.{answerOf, stepOf};
@@ -53,7 +53,7 @@ impl Unit {
         ensures { λ r. ⌜ stateOf (r .unit) ≡ stepOf (stateOf self) word ⌝ }
         ensures { λ r. ⌜ r .answer ≡ answerOf (stateOf self) word ⌝ }
         ensures refusals { λ r. ⌜ Ruled (stateOf self) word (stateOf (r .unit)) (r .answer) ⌝ }
-        ensures whole { λ r. ⌜ r .unit ≡ unitAfter self word ⌝ }
+        ensures whole { λ r. ⌜ r .unit ≡ unitBy self word ⌝ }
     {
         let tbf = self.tbf;
         let rbf = self.rbf;

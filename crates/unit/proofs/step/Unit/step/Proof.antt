@@ -2,12 +2,12 @@ use borrow.Author.Needs.{needs}
 use mathlib.Core.Path.{ap}
 use Rattle.lent.specs.Both.{Left}
 use Rattle.rules.proofs.Ruled.{ruled}
-use Rattle.unit.specs.Unit.{unitAfter, unitIn}
+use Rattle.unit.specs.Unit.{unitBy, unitIn}
 use Rattle.unit.proofs.step.Unit.step.Statement.{statement}
 use Rattle.unit.proofs.step.Unit.step.Tie as tie
 
 returns : tie.Need-returns
-unfolding unitAfter
+unfolding unitBy
 returns c =
     let s = c .before .before .before .before .step .ensures in
     let t = c .before .before .before .before .before .before .before .before .before .before .circle .ensures in
