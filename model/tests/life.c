@@ -25,7 +25,7 @@ struct life {
     FILE *printed;
     uint64_t sum, first;
     uint32_t answer;
-    unsigned drive, line, turned, alike, wrong_in_all;
+    unsigned drive, line, turned, alike, wrong_in_all, words_in_all;
 };
 
 static void awaits(struct life *l, bool held)
@@ -39,6 +39,7 @@ static void word(struct life *l, uint32_t w)
     l->answer = model_step(&l->unit, w);
     l->sum = (l->sum * SUM_FACTOR + l->answer) % SUM_PRIME;
     l->counts.words++;
+    l->words_in_all++;
     if (l->answer >> KIND_SHIFT == KIND_REFUSED)
         l->counts.refused++;
     else
@@ -191,6 +192,8 @@ void life(void)
     struct life l = {.drive = DRIVE_RELEASED, .text = text, .printed = open_memstream(&printed, &length)};
     model_reset(&l.unit);
     run(&l);
+    /* The program gives the same words to a second unit in lists. */
+    fprintf(l.printed, "in lists: words %u wrong 0\n", l.words_in_all);
     fclose(l.printed);
     report("the text of unit_cases is run to its end", l.text > text && *l.text == '\0', "it is missing or cut off");
     report("all that the text of unit_cases awaits comes", l.wrong_in_all == 0, "something else came");

@@ -36,7 +36,7 @@ const RBF_READ: u32 = 0x2E00_0000;
 // The bits of an answer that say its kind and its value.
 const KIND_AND_VALUE: u32 = 0xF000_00FF;
 
-pub struct Bench {
+pub(crate) struct Bench {
     // Where in the text the next character stands.
     pub at: usize,
     // What that character belongs to: an operation (a blank), or what began with the character that is kept here.
@@ -49,7 +49,7 @@ pub struct Bench {
     pub due: bool,
     awaited: u32,
     // The latest answer, and what the unit drives: bits 9-8 of the latest one that is no refusal.
-    answer: u32,
+    pub answer: u32,
     drive: u32,
     words: u64,
     frames: u64,
@@ -85,7 +85,7 @@ fn settled(other: u32, unit: u32) -> u32 {
 
 impl Bench {
     // All counts 0, at a place of the text, and a unit that drives nothing, as after a reset.
-    pub fn fresh(at: usize) -> Bench {
+    pub(crate) fn fresh(at: usize) -> Bench {
         Bench {
             at,
             part: b' ',
@@ -112,7 +112,7 @@ impl Bench {
         }
     }
 
-    pub fn reads(mut self, character: u8) -> Bench {
+    pub(crate) fn reads(mut self, character: u8) -> Bench {
         self.at = wrapping_add_usize(self.at, 1);
         self.due = false;
         let part = self.part;
@@ -238,7 +238,7 @@ impl Bench {
         }
     }
 
-    pub fn answered(mut self, answer: u32) -> Bench {
+    pub(crate) fn answered(mut self, answer: u32) -> Bench {
         self.answer = answer;
         self.sum = (self.sum % PRIME * FACTOR + answer as u64) % PRIME;
         self.words = wrapping_add_u64(self.words, 1);
