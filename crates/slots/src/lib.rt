@@ -82,6 +82,6 @@ pub fn core_drive(core: Core, clear: bool) -> u8
             }
             DRIVE_RELEASED
         }
-        Place::In(_, _) => frame::drive(frame, view(regs, clear)) as u8,
+        Place::In(_, _) => driving::drive(frame, view(regs, clear)) as u8,
     }
 }

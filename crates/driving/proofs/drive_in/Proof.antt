@@ -1,7 +1,7 @@
 use Rattle.place.specs.Drive.{driveIn}
 use borrow.Author.Needs.{needs}
-use Rattle.frame.proofs.driving.drive_in.Statement.{statement}
-use Rattle.frame.proofs.driving.drive_in.Tie as tie
+use Rattle.driving.proofs.drive_in.Statement.{statement}
+use Rattle.driving.proofs.drive_in.Tie as tie
 
 pub drive-in-spec : {M : Type 1} → statement M
 unfolding driveIn

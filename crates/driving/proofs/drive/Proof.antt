@@ -1,7 +1,7 @@
 use Rattle.place.specs.Drive.{driveOf}
 use borrow.Author.Needs.{needs}
-use Rattle.frame.proofs.driving.drive.Statement.{statement}
-use Rattle.frame.proofs.driving.drive.Tie as tie
+use Rattle.driving.proofs.drive.Statement.{statement}
+use Rattle.driving.proofs.drive.Tie as tie
 
 pub drive-spec : {M : Type 1} → statement M
 unfolding driveOf

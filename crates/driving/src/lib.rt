@@ -1,4 +1,5 @@
-// What the unit drives in the next slot inside a frame.
+// What the unit drives in the next slot inside a frame: the bits that it sends, and its ACK. The public function has no
+// `requires`, and nothing is assumed.
 ghost use mathlib.Core.Path.{_≡_};
 ghost use Prim.Native.Nat.{_≤_};
 ghost use Rattle.place.specs.Drive.{repliedOf, driveOf, driveIn, sentOf};

@@ -1,7 +1,7 @@
 use Rattle.place.specs.Drive.{repliedOf}
 use borrow.Author.Needs.{needs}
-use Rattle.frame.proofs.driving.answer.Statement.{statement}
-use Rattle.frame.proofs.driving.answer.Tie as tie
+use Rattle.driving.proofs.answer.Statement.{statement}
+use Rattle.driving.proofs.answer.Tie as tie
 
 pub answer-spec : {M : Type 1} → statement M
 unfolding repliedOf

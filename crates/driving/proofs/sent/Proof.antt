@@ -2,8 +2,8 @@ use Rattle.place.specs.Drive.{sentOf}
 use borrow.Author.Tests.{eq-eqb, le-ltb, lt-ltb, ne-eqb}
 use Rattle.line.specs.Parity.{levelOf}
 use borrow.Author.Needs.{needs}
-use Rattle.frame.proofs.driving.sent.Statement.{statement}
-use Rattle.frame.proofs.driving.sent.Tie as tie
+use Rattle.driving.proofs.sent.Statement.{statement}
+use Rattle.driving.proofs.sent.Tie as tie
 
 pub sent-spec : {M : Type 1} → statement M
 unfolding sentOf levelOf
