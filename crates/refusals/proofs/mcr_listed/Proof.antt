@@ -1,7 +1,7 @@
 use Rattle.rules.specs.Registers.{mcrListed}
 use borrow.Author.Needs.{needs}
-use Rattle.registers.proofs.mcr_listed.Statement.{statement}
-use Rattle.registers.proofs.mcr_listed.Tie as tie
+use Rattle.refusals.proofs.mcr_listed.Statement.{statement}
+use Rattle.refusals.proofs.mcr_listed.Tie as tie
 
 pub mcr-listed-spec : {M : Type 1} → statement M
 unfolding mcrListed

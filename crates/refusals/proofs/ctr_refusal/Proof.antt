@@ -1,6 +1,6 @@
 use Rattle.rules.specs.Registers.{ctrRefusal}
-use Rattle.registers.proofs.ctr_refusal.Statement.{statement}
-use Rattle.registers.proofs.ctr_refusal.Tie as tie
+use Rattle.refusals.proofs.ctr_refusal.Statement.{statement}
+use Rattle.refusals.proofs.ctr_refusal.Tie as tie
 
 pub ctr-refusal-spec : {M : Type 1} → statement M
 unfolding ctrRefusal

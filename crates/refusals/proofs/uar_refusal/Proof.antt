@@ -1,6 +1,6 @@
 use Rattle.rules.specs.Registers.{uarRefusal}
-use Rattle.registers.proofs.uar_refusal.Statement.{statement}
-use Rattle.registers.proofs.uar_refusal.Tie as tie
+use Rattle.refusals.proofs.uar_refusal.Statement.{statement}
+use Rattle.refusals.proofs.uar_refusal.Tie as tie
 
 pub uar-refusal-spec : {M : Type 1} → statement M
 unfolding uarRefusal

@@ -1,8 +1,8 @@
 use Rattle.rules.specs.Registers.{writeRefusal}
 use borrow.Author.Tests.{ne-eqb}
 use borrow.Author.Needs.{needs}
-use Rattle.registers.proofs.write_refusal.Statement.{statement}
-use Rattle.registers.proofs.write_refusal.Tie as tie
+use Rattle.refusals.proofs.write_refusal.Statement.{statement}
+use Rattle.refusals.proofs.write_refusal.Tie as tie
 
 pub write-refusal-spec : {M : Type 1} → statement M
 unfolding writeRefusal

@@ -1,7 +1,7 @@
 use Rattle.rules.specs.Registers.{cmrRefusal}
 use borrow.Author.Needs.{needs}
-use Rattle.registers.proofs.cmr_refusal.Statement.{statement}
-use Rattle.registers.proofs.cmr_refusal.Tie as tie
+use Rattle.refusals.proofs.cmr_refusal.Statement.{statement}
+use Rattle.refusals.proofs.cmr_refusal.Tie as tie
 
 pub cmr-refusal-spec : {M : Type 1} → statement M
 unfolding cmrRefusal

@@ -1,7 +1,7 @@
 use Rattle.rules.specs.Registers.{tbfRefusal}
 use borrow.Author.Tests.{le-leb, lt-leb}
-use Rattle.registers.proofs.tbf_refusal.Statement.{statement}
-use Rattle.registers.proofs.tbf_refusal.Tie as tie
+use Rattle.refusals.proofs.tbf_refusal.Statement.{statement}
+use Rattle.refusals.proofs.tbf_refusal.Tie as tie
 
 pub tbf-refusal-spec : {M : Type 1} → statement M
 unfolding tbfRefusal

@@ -1,6 +1,6 @@
 use Rattle.rules.specs.Registers.{requestRefusal}
-use Rattle.registers.proofs.request_refusal.Statement.{statement}
-use Rattle.registers.proofs.request_refusal.Tie as tie
+use Rattle.refusals.proofs.request_refusal.Statement.{statement}
+use Rattle.refusals.proofs.request_refusal.Tie as tie
 
 pub request-refusal-spec : {M : Type 1} → statement M
 unfolding requestRefusal

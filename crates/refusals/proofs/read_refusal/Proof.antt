@@ -1,7 +1,7 @@
 use Rattle.rules.specs.Registers.{readRefusal}
 use borrow.Author.Tests.{eq-eqb, ne-eqb}
-use Rattle.registers.proofs.read_refusal.Statement.{statement}
-use Rattle.registers.proofs.read_refusal.Tie as tie
+use Rattle.refusals.proofs.read_refusal.Statement.{statement}
+use Rattle.refusals.proofs.read_refusal.Tie as tie
 
 pub read-refusal-spec : {M : Type 1} → statement M
 unfolding readRefusal
