@@ -1,16 +1,13 @@
-// What a slot does to the scalars of a unit and, as a value, to its buffers; and what the unit then drives. No public
-// function has a `requires`, and nothing is assumed.
+// What a slot does to the scalars of a unit and, as a value, to its buffers. The public function has no `requires`, and
+// nothing is assumed.
 ghost use mathlib.Core.Path.{_≡_};
-ghost use Rattle.rules.specs.Slots.{coreDrive, onIdle, onLevel, onSlot, onStart};
+ghost use Rattle.rules.specs.Slots.{onIdle, onLevel, onSlot, onStart};
 use crate::endings::cut;
 use crate::events::on_event;
 use crate::state::acting;
-use crate::state::takes_part;
-use crate::state::view;
-use line::numbers::DRIVE_RELEASED;
-use line::numbers::DRIVE_START;
 use line::slot::Slot;
-use place::Place;
+use output::takes_part;
+use output::view;
 use rules::state::Act;
 use rules::state::Acted;
 use rules::state::Core;
@@ -63,25 +60,5 @@ pub fn on_slot(core: Core, slot: Slot, seen: Seen) -> Acted
         Slot::Start => on_start(core, seen.clear),
         Slot::Idle => on_idle(core),
         Slot::Stray => acting(core, Act::Nothing),
-    }
-}
-
-// What the unit drives in the next slot: "0, 1 (released) or 2 (start)". "With MARQ set and idle as the latest slot,
-// the unit drives start".
-pub fn core_drive(core: Core, clear: bool) -> u8
-    ensures { λ r. ⌜ r ≡ coreDrive core clear ⌝ }
-{
-    let frame = core.frame;
-    let regs = core.regs;
-    let spot = frame.spot;
-    let place = spot.place;
-    match place {
-        Place::Waiting => {
-            if core.idle & takes_part(regs, clear) {
-                return DRIVE_START;
-            }
-            DRIVE_RELEASED
-        }
-        Place::In(_, _) => driving::drive(frame, view(regs, clear)) as u8,
     }
 }

@@ -1,7 +1,7 @@
 use Rattle.rules.specs.State.{takesPart}
 use borrow.Author.Needs.{needs}
-use Rattle.slots.proofs.state.takes_part.Statement.{statement}
-use Rattle.slots.proofs.state.takes_part.Tie as tie
+use Rattle.output.proofs.takes_part.Statement.{statement}
+use Rattle.output.proofs.takes_part.Tie as tie
 
 pub takes-part-spec : {M : Type 1} → statement M
 unfolding takesPart

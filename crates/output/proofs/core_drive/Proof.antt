@@ -1,7 +1,7 @@
 use Rattle.rules.specs.Slots.{coreDrive}
 use borrow.Author.Needs.{needs}
-use Rattle.slots.proofs.core_drive.Statement.{statement}
-use Rattle.slots.proofs.core_drive.Tie as tie
+use Rattle.output.proofs.core_drive.Statement.{statement}
+use Rattle.output.proofs.core_drive.Tie as tie
 
 pub core-drive-spec : {M : Type 1} → statement M
 unfolding coreDrive
