@@ -1,13 +1,21 @@
 // What a slot does to the scalars of a unit and, as a value, to its buffers. The public function has no `requires`, and
 // nothing is assumed.
 ghost use mathlib.Core.Path.{_≡_};
+ghost use Rattle.place.specs.Frame.{begunOf, limitOf};
 ghost use Rattle.rules.specs.Slots.{onIdle, onLevel, onSlot, onStart};
 use crate::endings::cut;
 use crate::events::on_event;
 use crate::state::acting;
+use line::numbers::ATTEMPTS_MODE_0;
+use line::numbers::ATTEMPTS_MODE_1;
 use line::slot::Slot;
+use moves::none;
 use output::takes_part;
 use output::view;
+use place::Field;
+use place::Frame;
+use place::Place;
+use place::Spot;
 use rules::state::Act;
 use rules::state::Acted;
 use rules::state::Core;
@@ -17,6 +25,31 @@ mod endings;
 mod events;
 mod state;
 
+// "At most 16 attempts (mode 0) or 32 (mode 1)".
+fn limit(long: bool) -> u8
+    ensures { λ r. ⌜ r ≡ limitOf long ⌝ }
+{
+    if long {
+        return ATTEMPTS_MODE_1;
+    }
+    ATTEMPTS_MODE_0
+}
+
+// "A start slot always begins a frame": whether the unit takes part as a master, and the mode then.
+fn begun(leads: bool, long: bool) -> Frame
+    ensures { λ r. ⌜ r ≡ begunOf leads long ⌝ }
+{
+    let mut frame = none();
+    let most = limit(long);
+    let spot = Spot {
+        place: Place::In(Field::Broadcast, 0),
+    };
+    frame.spot = spot;
+    frame.leads = leads;
+    frame.limit = most;
+    frame
+}
+
 // "A start slot always begins a frame", from the state that the old frame's end left.
 fn on_start(core: Core, clear: bool) -> Acted
     ensures { λ r. ⌜ r ≡ onStart core clear ⌝ }
@@ -24,8 +57,8 @@ fn on_start(core: Core, clear: bool) -> Acted
     let mut after = cut(core);
     let mut rest = after.core;
     let regs = rest.regs;
-    let begun = moves::begun(takes_part(regs, clear), regs.long);
-    rest.frame = begun;
+    let frame = begun(takes_part(regs, clear), regs.long);
+    rest.frame = frame;
     rest.idle = false;
     after.core = rest;
     after

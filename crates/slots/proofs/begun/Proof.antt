@@ -1,7 +1,7 @@
 use Rattle.place.specs.Frame.{begunOf}
 use borrow.Author.Needs.{needs}
-use Rattle.moves.proofs.begun.Statement.{statement}
-use Rattle.moves.proofs.begun.Tie as tie
+use Rattle.slots.proofs.begun.Statement.{statement}
+use Rattle.slots.proofs.begun.Tie as tie
 
 pub begun-spec : {M : Type 1} → statement M
 unfolding begunOf

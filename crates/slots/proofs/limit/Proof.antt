@@ -1,6 +1,6 @@
 use Rattle.place.specs.Frame.{limitOf}
-use Rattle.moves.proofs.limit.Statement.{statement}
-use Rattle.moves.proofs.limit.Tie as tie
+use Rattle.slots.proofs.limit.Statement.{statement}
+use Rattle.slots.proofs.limit.Tie as tie
 
 pub limit-spec : {M : Type 1} → statement M
 unfolding limitOf
