@@ -1,5 +1,5 @@
-// What a unit puts on the line next, and what a frame sees of the unit. No public function has a `requires`, and nothing
-// is assumed.
+// What a unit puts on the line next, and what a frame sees of the unit. No public function has a `requires`, and
+// nothing is assumed.
 ghost use mathlib.Core.Path.{_≡_};
 ghost use Rattle.rules.specs.Slots.{coreDrive};
 ghost use Rattle.rules.specs.State.{takesPart, viewOf};
