@@ -1,6 +1,7 @@
 // The header of a frame, level by level: broadcast bit, master address, slave address and control. A judgement is made
 // at P, and A decides how the frame goes on.
 ghost use mathlib.Core.Path.{_≡_};
+ghost use Rattle.place.specs.Frame.{toField};
 ghost use Rattle.place.specs.Step.{afterAck, atBroadcast, atControl, atMaster, atSlave, controlJudged, goOn};
 ghost use Rattle.place.specs.Step.{headerAck, heardOf, masterOf, slaveJudged, withControl, withSlave};
 use crate::judging::accepted;
@@ -11,13 +12,26 @@ use line::parity::parity_holds;
 use moves::done;
 use moves::next;
 use moves::shifted;
-use moves::to;
 use moves::writes;
 use place::Event;
 use place::Field;
 use place::Frame;
 use place::Moved;
+use place::Place;
+use place::Spot;
 use place::View;
+
+// A field begins.
+pub(crate) fn to(mut frame: Frame, field: Field) -> Frame
+    ensures { λ r. ⌜ r ≡ toField frame field ⌝ }
+{
+    let spot = Spot {
+        place: Place::In(field, 0),
+    };
+    frame.spot = spot;
+    frame.shift = 0;
+    frame
+}
 
 // "An ACK is .. awaited from another, the settled level", and "in a broadcast .. A is ignored".
 pub(crate) fn heard(frame: Frame, bit: bool) -> bool

@@ -5,10 +5,10 @@ ghost use Rattle.place.specs.Step.{endsOf, lastOf, lengthJudged, textAck, whole
 use crate::header::after_ack;
 use crate::header::go_on;
 use crate::header::heard;
+use crate::header::to;
 use line::parity::parity_holds;
 use moves::done;
 use moves::shifted;
-use moves::to;
 use moves::with_length;
 use place::Event;
 use place::Field;

@@ -17,10 +17,10 @@ use line::numbers::REG_CTR;
 use line::numbers::REG_RBF;
 use line::numbers::REG_TBF;
 use line::numbers::TBF_BYTES;
-use registers::read_refusal;
+use refusals::read_refusal;
+use refusals::write_refusal;
 use registers::read_value;
 use registers::write;
-use registers::write_refusal;
 use rules::state::Core;
 use rules::state::Registers;
 

@@ -18,12 +18,12 @@ use line::numbers::SLOT_HIGH;
 use line::numbers::TBF_BYTES;
 use line::slot::Slot;
 use line::slot::slot_of;
+use output::core_drive;
 use registers::reset_core;
 use rules::answer::Answer;
 use rules::state::Acted;
 use rules::state::Core;
 use rules::state::Seen;
-use slots::core_drive;
 use slots::on_slot;
 
 // All of a unit but the bytes of its buffers, which are lent.

@@ -1,11 +1,9 @@
-// How the place of a unit in a frame moves on: the frames that a start slot, a bit, the end of a field and the end of the
-// unit's part leave. No public function has a `requires`, and nothing is assumed.
+// How the place of a unit in a frame moves on, as far as several crates ask for it: the frames that a bit, a length and
+// the end of the unit's part leave, and that of a unit that waits. No public function has a `requires`, and nothing is
+// assumed.
 ghost use mathlib.Core.Path.{_≡_};
-ghost use Rattle.place.specs.Frame.{begunOf, doneOf, lengthOf, limitOf, nextOf, noFrame, nowhere, shiftOf, shiftedOf};
-ghost use Rattle.place.specs.Frame.{toField, withLength};
+ghost use Rattle.place.specs.Frame.{doneOf, lengthOf, nextOf, noFrame, nowhere, shiftOf, shiftedOf, withLength};
 ghost use Rattle.place.specs.Slaves.{writesOf};
-use line::numbers::ATTEMPTS_MODE_0;
-use line::numbers::ATTEMPTS_MODE_1;
 use line::numbers::LENGTH_OF_ZERO;
 use place::Field;
 use place::Frame;
@@ -17,16 +15,6 @@ pub fn writes(control: u8) -> bool
     ensures { λ r. ⌜ r ≡ writesOf control ⌝ }
 {
     (control == 10) | (control == 11) | (control == 14) | (control == 15)
-}
-
-// "At most 16 attempts (mode 0) or 32 (mode 1)".
-fn limit(long: bool) -> u8
-    ensures { λ r. ⌜ r ≡ limitOf long ⌝ }
-{
-    if long {
-        return ATTEMPTS_MODE_1;
-    }
-    ATTEMPTS_MODE_0
 }
 
 // "Length 00H means 256."
@@ -76,33 +64,6 @@ pub fn none() -> Frame
         byte: 0,
         limit: 0,
     }
-}
-
-// "A start slot always begins a frame": whether the unit takes part as a master, and the mode then.
-pub fn begun(leads: bool, long: bool) -> Frame
-    ensures { λ r. ⌜ r ≡ begunOf leads long ⌝ }
-{
-    let mut frame = none();
-    let most = limit(long);
-    let spot = Spot {
-        place: Place::In(Field::Broadcast, 0),
-    };
-    frame.spot = spot;
-    frame.leads = leads;
-    frame.limit = most;
-    frame
-}
-
-// A field begins.
-pub fn to(mut frame: Frame, field: Field) -> Frame
-    ensures { λ r. ⌜ r ≡ toField frame field ⌝ }
-{
-    let spot = Spot {
-        place: Place::In(field, 0),
-    };
-    frame.spot = spot;
-    frame.shift = 0;
-    frame
 }
 
 // The unit has done its part, or the frame has ended.

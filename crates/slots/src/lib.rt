@@ -1,16 +1,21 @@
-// What a slot does to the scalars of a unit and, as a value, to its buffers; and what the unit then drives. No public
-// function has a `requires`, and nothing is assumed.
+// What a slot does to the scalars of a unit and, as a value, to its buffers. The public function has no `requires`, and
+// nothing is assumed.
 ghost use mathlib.Core.Path.{_≡_};
-ghost use Rattle.rules.specs.Slots.{coreDrive, onIdle, onLevel, onSlot, onStart};
+ghost use Rattle.place.specs.Frame.{begunOf, limitOf};
+ghost use Rattle.rules.specs.Slots.{onIdle, onLevel, onSlot, onStart};
 use crate::endings::cut;
 use crate::events::on_event;
 use crate::state::acting;
-use crate::state::takes_part;
-use crate::state::view;
-use line::numbers::DRIVE_RELEASED;
-use line::numbers::DRIVE_START;
+use line::numbers::ATTEMPTS_MODE_0;
+use line::numbers::ATTEMPTS_MODE_1;
 use line::slot::Slot;
+use moves::none;
+use output::takes_part;
+use output::view;
+use place::Field;
+use place::Frame;
 use place::Place;
+use place::Spot;
 use rules::state::Act;
 use rules::state::Acted;
 use rules::state::Core;
@@ -20,6 +25,31 @@ mod endings;
 mod events;
 mod state;
 
+// "At most 16 attempts (mode 0) or 32 (mode 1)".
+fn limit(long: bool) -> u8
+    ensures { λ r. ⌜ r ≡ limitOf long ⌝ }
+{
+    if long {
+        return ATTEMPTS_MODE_1;
+    }
+    ATTEMPTS_MODE_0
+}
+
+// "A start slot always begins a frame": whether the unit takes part as a master, and the mode then.
+fn begun(leads: bool, long: bool) -> Frame
+    ensures { λ r. ⌜ r ≡ begunOf leads long ⌝ }
+{
+    let mut frame = none();
+    let most = limit(long);
+    let spot = Spot {
+        place: Place::In(Field::Broadcast, 0),
+    };
+    frame.spot = spot;
+    frame.leads = leads;
+    frame.limit = most;
+    frame
+}
+
 // "A start slot always begins a frame", from the state that the old frame's end left.
 fn on_start(core: Core, clear: bool) -> Acted
     ensures { λ r. ⌜ r ≡ onStart core clear ⌝ }
@@ -27,8 +57,8 @@ fn on_start(core: Core, clear: bool) -> Acted
     let mut after = cut(core);
     let mut rest = after.core;
     let regs = rest.regs;
-    let begun = moves::begun(takes_part(regs, clear), regs.long);
-    rest.frame = begun;
+    let frame = begun(takes_part(regs, clear), regs.long);
+    rest.frame = frame;
     rest.idle = false;
     after.core = rest;
     after
@@ -63,25 +93,5 @@ pub fn on_slot(core: Core, slot: Slot, seen: Seen) -> Acted
         Slot::Start => on_start(core, seen.clear),
         Slot::Idle => on_idle(core),
         Slot::Stray => acting(core, Act::Nothing),
-    }
-}
-
-// What the unit drives in the next slot: "0, 1 (released) or 2 (start)". "With MARQ set and idle as the latest slot,
-// the unit drives start".
-pub fn core_drive(core: Core, clear: bool) -> u8
-    ensures { λ r. ⌜ r ≡ coreDrive core clear ⌝ }
-{
-    let frame = core.frame;
-    let regs = core.regs;
-    let spot = frame.spot;
-    let place = spot.place;
-    match place {
-        Place::Waiting => {
-            if core.idle & takes_part(regs, clear) {
-                return DRIVE_START;
-            }
-            DRIVE_RELEASED
-        }
-        Place::In(_, _) => frame::drive(frame, view(regs, clear)) as u8,
     }
 }

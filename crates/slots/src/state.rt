@@ -1,36 +1,11 @@
 // What is worked out from the registers of a unit.
 ghost use mathlib.Core.Path.{_≡_};
 ghost use Rattle.rules.specs.Endings.{acted};
-ghost use Rattle.rules.specs.State.{ownByte, statusByte, takesPart, viewOf};
-use moves::writes;
-use place::View;
+ghost use Rattle.rules.specs.State.{ownByte, statusByte};
 use rules::state::Act;
 use rules::state::Acted;
 use rules::state::Core;
 use rules::state::Registers;
-
-// What a frame sees of the unit.
-pub(crate) fn view(regs: Registers, clear: bool) -> View
-    ensures { λ r. ⌜ r ≡ viewOf regs clear ⌝ }
-{
-    View {
-        own: regs.own,
-        bit: regs.bit,
-        slave: regs.slave,
-        control: regs.control,
-        strq: regs.strq,
-        ready: regs.slre & clear,
-        locked: regs.locked,
-        holder: regs.holder,
-    }
-}
-
-// A request stands and does not hold back: "a read request holds back while RBF is not empty".
-pub(crate) fn takes_part(regs: Registers, clear: bool) -> bool
-    ensures { λ r. ⌜ r ≡ takesPart regs clear ⌝ }
-{
-    regs.marq & (writes(regs.control) | clear)
-}
 
 // "The status byte has bit 0 STRQ, bit 1 RBF not empty (table 2-5), bit 2 locked, bit 4 sending enabled, bits 7-6
 // = 10".
