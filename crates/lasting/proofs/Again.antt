@@ -13,7 +13,7 @@ use Rattle.place.specs.declared.Field.the-variants.{Broadcast, Master, Slave, C
 use Rattle.place.specs.declared.Frame.{Frame}
 use Rattle.place.specs.declared.Place.{Place}
 use Rattle.place.specs.declared.Place.the-variants.{Waiting, In}
-use Rattle.unit.specs.Queue.{heldOf}
+use Rattle.lent.specs.Queue.{heldOf}
 use Rattle.rules.specs.State.{State}
 use Rattle.rules.specs.declared.state.Registers.{Registers}
 use Rattle.lasting.specs.Calls.{Keeps}

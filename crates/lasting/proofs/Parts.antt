@@ -15,9 +15,9 @@ use Rattle.line.specs.Choice.{pick}
 use Rattle.line.proofs.Either.{below-or-not}
 use Rattle.line.proofs.Filled.{Filled, nothing-filled, one-filled, all-filled}
 use Rattle.list_run.proofs.Underway.{cut}
-use Rattle.unit.proofs.Circle.{items-length}
-use Rattle.unit.specs.Queue.{circleOf, heldOf, items, startOf, wrap}
-use Rattle.unit.specs.declared.buffers.Span.{Span}
+use Rattle.lent.proofs.Circle.{items-length}
+use Rattle.lent.specs.Queue.{circleOf, heldOf, items, startOf, wrap}
+use Rattle.lent.specs.declared.buffers.Span.{Span}
 use Rattle.lasting.specs.Decode.{bufferIn}
 use Rattle.lasting.specs.Encode.{bufferBytes}
 

@@ -3,13 +3,14 @@ ghost use mathlib.Core.Path.{_≡_};
 ghost use Prim.Native.Nat.{_+_, _<_, _≤_};
 ghost use lib.ListN.{length, replicate};
 ghost use Rattle.line.specs.Numbers.{rbfBytes, tbfBytes};
-ghost use Rattle.unit.specs.Queue.{circleOf, heldOf, items, rbfOf, startOf, tbfOf, wrap};
+ghost use Rattle.lent.specs.Queue.{circleOf, heldOf, items, startOf, wrap};
+ghost use Rattle.unit.specs.Unit.{rbfOf, tbfOf};
 ghost use Rattle.lasting.specs.Decode.{bufferIn};
 ghost use Rattle.lasting.specs.Encode.{bufferBytes};
+use lent::buffers::Span;
 use line::numbers::RBF_BYTES;
 use line::numbers::TBF_BYTES;
 use unit::buffers::Rbf;
-use unit::buffers::Span;
 use unit::buffers::Tbf;
 
 // A list written over another of the same size.

@@ -1,7 +1,7 @@
 // A whole unit as bytes and back.
 ghost use mathlib.Core.Path.{_≡_};
 ghost use lib.ListN.{length};
-ghost use Rattle.unit.specs.Both.{stateOf};
+ghost use Rattle.unit.specs.Unit.{stateOf};
 ghost use Rattle.lasting.specs.Calls.{Keeps};
 ghost use Rattle.lasting.specs.Decode.{decode};
 ghost use Rattle.lasting.specs.Layout.{stateBytes};

@@ -8,12 +8,12 @@ use lib.ListN.{length, drop, getD, set, drop-of-length-le}
 use lib.Seq.{drop-cons}
 use Rattle.line.proofs.Filled.{Filled, nothing-filled, one-filled, all-filled}
 use Rattle.isolation.specs.Runs.{run, answers}
-use Rattle.unit.specs.Both.{Runs, stateIn}
+use Rattle.lent.specs.Both.{Runs, stateIn}
 use Rattle.rules.specs.Machine.{unit}
 use Rattle.rules.specs.State.{State}
 use Rattle.rules.specs.Step.{stepOf, answerOf, wordOf}
-use Rattle.unit.specs.declared.step.Answered.{Answered}
-use Rattle.unit.specs.declared.step.Lent.{Lent}
+use Rattle.lent.specs.declared.step.Answered.{Answered}
+use Rattle.lent.specs.declared.step.Lent.{Lent}
 use Rattle.list_run.specs.Run.{Whole}
 
 pub run-cons : (s : State) (w : ℕ) (ws : List ℕ) → run unit s (w ∷ ws) ≡ run unit (stepOf s w) ws

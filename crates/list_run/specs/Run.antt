@@ -6,9 +6,9 @@ use lib.ListN.{length, drop, getD, set}
 use Rattle.line.specs.Numbers.{rbfBytes, refusedShortList, tbfBytes}
 use Rattle.isolation.specs.Runs.{run, answers}
 use Rattle.lists.specs.Bytes.{bytesOf, wordFrom, wordsOf}
-use Rattle.unit.specs.Both.{stateIn}
+use Rattle.lent.specs.Both.{stateIn}
 use Rattle.rules.specs.Machine.{unit}
-use Rattle.unit.specs.declared.step.Lent.{Lent}
+use Rattle.lent.specs.declared.step.Lent.{Lent}
 use Rattle.list_run.specs.declared.run.Outcome.{Outcome}
 use Rattle.list_run.specs.declared.run.Outcome.the-variants.{Ran, ShortList}
 

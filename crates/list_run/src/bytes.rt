@@ -2,7 +2,7 @@
 ghost use mathlib.Core.Path.{_≡_};
 ghost use Prim.Native.Nat.{_+_, _<_, _≤_};
 ghost use lib.ListN.{length};
-ghost use Rattle.unit.specs.Both.{stateOf};
+ghost use Rattle.unit.specs.Unit.{stateOf};
 ghost use Rattle.lists.specs.Bytes.{byteRefusal, bytesAfter, stateAfter};
 ghost use Rattle.list_run.specs.Run.{RunsSpelled};
 ghost use Rattle.list_run.specs.Run.{wordAt, wordPut};
@@ -10,10 +10,10 @@ ghost use Rattle.list_run.specs.Run.{Whole};
 use crate::run::unit_of;
 use answers::answer_word;
 use answers::byte_refusal;
+use lent::step::Lent;
 use line::numbers::RBF_BYTES;
 use line::numbers::TBF_BYTES;
 use rules::answer::Answer;
-use unit::step::Lent;
 use unit::step::Unit;
 
 // How many bytes spell a word.

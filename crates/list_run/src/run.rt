@@ -2,16 +2,17 @@
 ghost use mathlib.Core.Path.{_≡_};
 ghost use Prim.Native.Nat.{_≤_};
 ghost use lib.ListN.{length};
-ghost use Rattle.unit.specs.Both.{stateIn, stateOf};
+ghost use Rattle.lent.specs.Both.{stateIn};
+ghost use Rattle.unit.specs.Unit.{stateOf};
 ghost use Rattle.lists.specs.Run.{Called};
 ghost use Rattle.list_run.specs.Run.{RunsLent, Whole, numberOf};
 use answers::answer_word;
+use lent::step::Lent;
 use line::numbers::RBF_BYTES;
 use line::numbers::TBF_BYTES;
 use rules::answer::Answer;
 use unit::buffers::Rbf;
 use unit::buffers::Tbf;
-use unit::step::Lent;
 use unit::step::Unit;
 
 // How a run ends: every word has its answer, or the answer list is shorter than the word list.

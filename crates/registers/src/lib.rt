@@ -1,5 +1,5 @@
-// What the host's words do to the registers, and what a read gives. No public function has a `requires`, and nothing is
-// assumed.
+// What the host's words do to the registers, what a read gives, and a unit after a reset but for its buffers. No public
+// function has a `requires`, and nothing is assumed.
 ghost use mathlib.Core.Bool.{true};
 ghost use mathlib.Core.Path.{_≡_};
 ghost use Prim.Native.Nat.{_+_, _*_};
@@ -10,9 +10,11 @@ ghost use Rattle.rules.specs.Registers.{commanded, flgByte, lorCopied, mcrWritt
 ghost use Rattle.rules.specs.Registers.{strByte, uar1Written, written};
 ghost use Rattle.rules.specs.Set.{registers·lor1, registers·lor2, registers·own, registers·slave, registers·slre};
 ghost use Rattle.rules.specs.Set.{registers·strq};
+ghost use Rattle.rules.specs.State.{resetCore, resetRegisters};
 use line::numbers::CMR_CLEAR_SLRE;
 use line::numbers::CMR_OFFER;
 use line::numbers::CMR_REQUEST;
+use line::numbers::CODE_AT_RESET;
 use line::numbers::CTR_SET_SLRE;
 use line::numbers::RBF_BYTES;
 use line::numbers::REG_CMR;
@@ -28,6 +30,7 @@ use line::numbers::REG_STR;
 use line::numbers::REG_UAR1;
 use line::numbers::REG_UAR2;
 use line::numbers::TBF_BYTES;
+use rules::state::Core;
 use rules::state::Registers;
 
 fn with_lor(mut regs: Registers, lor1: u8, lor2: u8) -> Registers
@@ -202,5 +205,45 @@ pub fn read_value(regs: Registers, waiting: usize, stored: usize, register: u8) 
         REG_LOR1 => regs.lor1,
         REG_LOR2 => regs.lor2,
         _ => rcr_byte(regs),
+    }
+}
+
+// "Reset: RCR FFH, MCR 80H, all else zero or empty".
+fn reset_registers() -> Registers
+    ensures { λ r. ⌜ r ≡ resetRegisters ⌝ }
+{
+    Registers {
+        own: 0,
+        enabled: false,
+        long: false,
+        slave: 0,
+        bit: true,
+        retries: 0,
+        control: 0,
+        marq: false,
+        strq: false,
+        slre: false,
+        losses: 0,
+        lor1: 0,
+        lor2: 0,
+        rdr1: 0,
+        rdr2: 0,
+        marc: CODE_AT_RESET,
+        slrc: CODE_AT_RESET,
+        locked: false,
+        holder: 0,
+    }
+}
+
+// ".. waiting for a start, idle not seen."
+pub fn reset_core() -> Core
+    ensures { λ r. ⌜ r ≡ resetCore ⌝ }
+{
+    let regs = reset_registers();
+    let frame = moves::none();
+    Core {
+        regs,
+        frame,
+        idle: false,
     }
 }

@@ -1,5 +1,2 @@
--- How the structs of the code stand for the state of the rules, what private functions promise each other, and the
--- plainest words.
-pub mod Queue
-pub mod Both
-pub mod Plain
+-- How a unit that holds its buffers stands for the state of the rules.
+pub mod Unit

@@ -1,8 +1,4 @@
-// A unit with its buffers, and what it makes of every word: a slot by `slots`, a word of the host's by `registers`, and
-// the buffers here. No public function has a `requires`, and nothing is assumed.
-mod answer;
+// A unit that holds its buffers, and what it makes of every word: the step over lent buffers, by value. No public
+// function has a `requires`, and nothing is assumed.
 pub mod buffers;
-mod host;
-mod plain;
-mod state;
 pub mod step;

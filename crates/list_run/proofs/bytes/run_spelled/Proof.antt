@@ -3,7 +3,7 @@ use borrow.Author.Needs.{needs}
 use mathlib.Core.Path.{sym, ap, _∙_}
 use Prim.Native.Nat.{_-_}
 use lib.ListN.{length}
-use Rattle.unit.specs.Both.{stateIn}
+use Rattle.lent.specs.Both.{stateIn}
 use Rattle.rules.specs.Step.{wordOf}
 use Rattle.list_run.proofs.Spelled.{SpelledIn, none-spelled, one-spelled-in, all-spelled}
 use Rattle.list_run.proofs.bytes.run_spelled.Statement.{statement}

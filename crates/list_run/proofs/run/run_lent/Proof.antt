@@ -2,7 +2,7 @@ use borrow.Author.Needs.{needs}
 use mathlib.Core.Path.{sym, ap, _∙_}
 use Prim.Native.Nat.{_-_}
 use lib.ListN.{length}
-use Rattle.unit.specs.Both.{stateIn}
+use Rattle.lent.specs.Both.{stateIn}
 use Rattle.rules.specs.Step.{wordOf}
 use Rattle.list_run.proofs.Underway.{UnderwayIn, none-run, one-run-in, all-run}
 use Rattle.list_run.proofs.run.run_lent.Statement.{statement}

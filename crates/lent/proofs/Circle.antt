@@ -1,0 +1,129 @@
+-- The laws of a circle of bytes against a list, once for every room.
+use Prim.Native.Nat.{ℕ, zero, suc, _+_, _-_, _≤_, _<_}
+use native.Mathlib.Omega.{arith}
+use mathlib.Core.Bool.{Bool, true, false}
+use mathlib.Core.List.{List, [], _∷_, _++_}
+use mathlib.Core.Logic.{_⊎_, inl, inr, ⊎-elim}
+use mathlib.Core.Path.{_≡_, refl, sym, ap, ap₂, _∙_}
+use borrow.Author.Tests.{ltb-true, ltb-false, lt-ltb}
+use lib.Dec.{ltb}
+use lib.ListN.{length, getD, set, drop}
+use lib.Seq.{getD-set-same, getD-set-other}
+use Rattle.line.specs.Choice.{pick}
+use Rattle.lent.specs.Queue.{wrap, startOf, heldOf, items}
+use Rattle.rules.specs.State.{pushOf}
+
+-- ---- places
+
+-- which of two numbers a test picks
+picked : (i n a b : ℕ) → ((i < n) × (pick (ltb i n) a b ≡ a)) ⊎ ((n ≤ i) × (pick (ltb i n) a b ≡ b))
+picked i n a b = by (ltb i n) refl
+  where
+    by : (t : Bool) → ltb i n ≡ t → ((i < n) × (pick t a b ≡ a)) ⊎ ((n ≤ i) × (pick t a b ≡ b))
+    by true e = inl (ltb-true i n e, refl)
+    by false e = inr (ltb-false i n e, refl)
+
+wrap-within : (n i : ℕ) → i < n → wrap n i ≡ i
+wrap-within n i h = ⊎-elim (λ w. w .1) (λ w. omega arith) (picked i n i (i - n))
+
+wrap-past : (n i : ℕ) → n ≤ i → wrap n i ≡ i - n
+wrap-past n i h = ⊎-elim (λ w. omega arith) (λ w. w .1) (picked i n i (i - n))
+
+pub wrap-less : (n f k : ℕ) → f < n → k < n → wrap n (f + k) < n
+wrap-less n f k hf hk = ⊎-elim (λ w. omega arith) (λ w. omega arith) (picked (f + k) n (f + k) (f + k - n))
+
+-- a place and one behind it by k + 1 differ
+wrap-apart : (n f k : ℕ) → f < n → suc k < n → f ≡ wrap n (f + suc k) → ⊥
+wrap-apart n f k hf hk e =
+    ⊎-elim (λ w. omega arith) (λ w. omega arith) (picked (f + suc k) n (f + suc k) (f + suc k - n))
+
+-- behind by k + 1 is behind the next place by k
+wrap-next : (n f k : ℕ) → f < n → suc k < n → wrap n (f + suc k) ≡ wrap n (wrap n (f + 1) + k)
+wrap-next n f k hf hk =
+    ⊎-elim
+    (λ w.
+    let e : wrap n (f + 1) + k ≡ f + suc k = omega arith in
+    ap (wrap n) (sym e))
+    (λ w.
+    let e : wrap n (f + 1) + k ≡ k = omega arith in
+    let d : f + suc k - n ≡ k = omega arith in
+    wrap-past n (f + suc k) (omega arith) ∙ d ∙ sym (wrap-within n k (omega arith)) ∙ ap (wrap n) (sym e))
+    (picked (f + 1) n (f + 1) (f + 1 - n))
+
+pub start-less : (n f : ℕ) → 0 < n → startOf n f < n
+start-less n f h = ⊎-elim (λ w. omega arith) (λ w. omega arith) (picked f n f 0)
+
+start-same : (n f : ℕ) → f < n → startOf n f ≡ f
+start-same n f h = ⊎-elim (λ w. w .1) (λ w. omega arith) (picked f n f 0)
+
+held-same : (n k : ℕ) → k ≤ n → heldOf n k ≡ k
+held-same n k h = ⊎-elim (λ w. w .1) (λ w. omega arith) (picked k n k n)
+
+held-least : (n k : ℕ) → heldOf n k ≤ n
+held-least n k = ⊎-elim (λ w. omega arith) (λ w. omega arith) (picked k n k n)
+
+held-some : (n k : ℕ) → 0 < n → 0 < k → 0 < heldOf n k
+held-some n k h j = ⊎-elim (λ w. omega arith) (λ w. omega arith) (picked k n k n)
+
+-- ---- bytes
+
+pub items-length : (n : ℕ) (bytes : List ℕ) (k f : ℕ) → length (items n bytes f k) ≡ k
+unfolding items
+items-length n bytes zero f = refl
+items-length n bytes (suc k) f = ap suc (items-length n bytes k (wrap n (f + 1)))
+
+-- a byte stored behind the last one is one byte more at the end
+items-more : (n : ℕ) (bytes : List ℕ) (x : ℕ) → length bytes ≡ n → (k f : ℕ) → f < n → k < n
+    → items n (set bytes (wrap n (f + k)) x) f (suc k) ≡ items n bytes f k ++ x ∷ []
+unfolding items
+items-more n bytes x l zero f hf hk =
+    let e : wrap n (f + 0) ≡ f = wrap-within n (f + 0) (omega arith) ∙ omega arith in
+    rw e (ap (λ (v : ℕ). v ∷ []) (getD-set-same bytes f x 0 (omega arith)))
+items-more n bytes x l (suc k) f hf hk =
+    ap₂ _∷_ (getD-set-other bytes (wrap n (f + suc k)) f x 0 (wrap-apart n f k hf hk))
+    (rw (wrap-next n f k hf hk)
+    (items-more n bytes x l k (wrap n (f + 1)) (wrap-less n f 1 hf (omega arith)) (omega arith)))
+
+items-first : (n : ℕ) (bytes : List ℕ) (f k : ℕ) → 0 < k → getD bytes f 0 ≡ getD (items n bytes f k) 0 0
+unfolding items
+items-first n bytes f zero h = absurd (let b : ⊥ = omega arith in b)
+items-first n bytes f (suc k) h = refl
+
+items-rest : (n : ℕ) (bytes : List ℕ) (f k : ℕ) → 0 < k
+    → items n bytes (wrap n (f + 1)) (k - 1) ≡ drop 1 (items n bytes f k)
+unfolding items
+items-rest n bytes f zero h = absurd (let b : ⊥ = omega arith in b)
+items-rest n bytes f (suc k) h = let e : suc k - 1 ≡ k = omega arith in ap (items n bytes (wrap n (f + 1))) e
+
+-- ---- buffers
+
+pub circle-push : (n : ℕ) (bytes : List ℕ) (f k x : ℕ) → length bytes ≡ n → k < n
+    → items n (set bytes (wrap n (startOf n f + k)) x) (startOf n f) (heldOf n (k + 1))
+    ≡ pushOf n (items n bytes (startOf n f) (heldOf n k)) x
+unfolding pushOf
+circle-push n bytes f k x l h =
+    let e : heldOf n (k + 1) ≡ suc k = held-same n (k + 1) (omega arith) ∙ omega arith in
+    rw (e, held-same n k (omega arith), items-length n bytes k (startOf n f), lt-ltb k n h)
+    (items-more n bytes x l k (startOf n f) (start-less n f (omega arith)) h)
+
+pub circle-front : (n : ℕ) (bytes : List ℕ) (f k : ℕ) → 0 < n → 0 < k
+    → getD bytes f 0 ≡ getD (items n bytes f (heldOf n k)) 0 0
+circle-front n bytes f k h j = items-first n bytes f (heldOf n k) (held-some n k h j)
+
+pub circle-pop : (n : ℕ) (bytes : List ℕ) (f k m : ℕ) → 1 < n → m ≡ heldOf n k → 0 < m
+    → items n bytes (startOf n (wrap n (startOf n f + 1))) (heldOf n (m - 1))
+    ≡ drop 1 (items n bytes (startOf n f) (heldOf n k))
+circle-pop n bytes f k m h e j =
+    let s : startOf n f < n = start-less n f (omega arith) in
+    let b : m ≤ n = omega (arith, held-least n k) in
+    rw (
+      held-same n (m - 1) (omega arith),
+      start-same n (wrap n (startOf n f + 1)) (wrap-less n (startOf n f) 1 s h),
+      ← e,
+    )
+    (items-rest n bytes (startOf n f) m j)
+
+-- without bytes there is none to leave
+pub none-left : (bytes : List ℕ) → length bytes ≡ 0 → bytes ≡ drop 1 bytes
+none-left [] h = refl
+none-left (x ∷ bytes) h = absurd (let b : ⊥ = omega arith in b)

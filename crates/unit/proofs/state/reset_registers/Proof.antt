@@ -1,6 +1,0 @@
-use borrow.Author.Needs.{needs}
-use Rattle.unit.proofs.state.reset_registers.Statement.{statement}
-use Rattle.unit.proofs.state.reset_registers.Tie as tie
-
-pub reset-registers-spec : {M : Type 1} → statement M
-reset-registers-spec = tie.close (tie.spec (λ c. search needs))
