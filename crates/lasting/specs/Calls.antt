@@ -64,8 +64,8 @@ pub record Reset (kept : List ℕ) (number : ℕ) (kept′ : List ℕ) : Type 0 
   pub left : kept′ ≡ resetBytes kept
   pub again : decode kept′ ≡ resetState kept
 
--- `iebus_unit_run` on the bytes `kept` and the answer bytes `out`, and what it leaves of both; the last two are demands 1
--- and 3
+-- `iebus_unit_run` on the bytes `kept` and the answer bytes `out`, and what it leaves of both; the last two are demands
+-- 1 and 3
 pub record Ran (kept words out : List ℕ) (number : ℕ) (kept′ out′ : List ℕ) : Type 0 where
   pub ends : number ≡ runRefusal kept words out
   pub written : out′ ≡ runAnswers kept words out

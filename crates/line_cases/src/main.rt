@@ -1,8 +1,11 @@
 // Runs the contest on the cases that document 01 names and on one of each refusal, and prints for each its number, the
-// place named and the first numbers of the list, which held 99 everywhere.
+// place named and the first numbers of the list, which held 99 everywhere. Contenders go by value, and then as a lent
+// list of records.
+use contest::contenders::Contender;
 use contest::contenders::Contenders;
 use contest::contenders::Outcome;
 use libc::STDOUT_FILENO;
+use records::contest;
 
 fn number(x: u64) {
     io::write_all(STDOUT_FILENO, b" ");
@@ -40,6 +43,17 @@ fn run_short(contenders: Contenders) {
     show(outcome, &lost);
 }
 
+// The contest over a list of records that is lent to it.
+fn lent(records: [Contender; 3], lost: &mut [u32]) -> Outcome {
+    contest(&records, lost)
+}
+
+fn run_lent(records: [Contender; 3]) {
+    let mut lost = [99u32; 52];
+    let outcome = lent(records, &mut lost);
+    show(outcome, &lost);
+}
+
 // Contenders with the ordinary addresses from 7FFH downwards.
 fn many(count: usize) -> Contenders {
     let mut all = Contenders::new(count);
@@ -51,6 +65,19 @@ fn many(count: usize) -> Contenders {
         place += 1;
     }
     all
+}
+
+fn ordinary(address: u16) -> Contender {
+    Contender { bit: 1, address }
+}
+
+fn lent_cases() {
+    io::write_all(STDOUT_FILENO, b"lent, 0FEH beats 0FFH and 100H:");
+    run_lent([ordinary(0x100), ordinary(0x0FF), ordinary(0x0FE)]);
+    io::write_all(STDOUT_FILENO, b"lent, address 1000H at place 1:");
+    run_lent([ordinary(5), ordinary(0x1000), ordinary(0x1001)]);
+    io::write_all(STDOUT_FILENO, b"lent, places 0 and 2 alike:");
+    run_lent([ordinary(5), ordinary(6), ordinary(5)]);
 }
 
 fn main() {
@@ -79,4 +106,5 @@ fn main() {
     run(Contenders::new(3).with(0, 0, 5).with(1, 1, 5).with(2, 1, 5));
     io::write_all(STDOUT_FILENO, b"a list of one number for two:");
     run_short(Contenders::new(2).with(0, 1, 0x100).with(1, 1, 0x0FF));
+    lent_cases();
 }

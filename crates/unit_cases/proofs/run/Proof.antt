@@ -8,7 +8,8 @@ use Rattle.unit_cases.proofs.run.Tie as tie
 
 -- the words that are held do not yet fill a list
 abbrev Inv-loop : tie.InvT-loop
-Inv-loop script life₀ listed₀ words₀ said₀ held₀ counter₀ life listed words said held counter = (held < 250) × (length words ≡ 250)
+Inv-loop script life₀ listed₀ words₀ said₀ held₀ counter₀ life listed words said held counter =
+    (held < 250) × (length words ≡ 250)
 
 abbrev μ-loop : tie.MeasureT-loop
 μ-loop script life₀ listed₀ words₀ said₀ held₀ counter₀ life listed words said held counter = 20000000 - counter
