@@ -201,7 +201,8 @@ slaveCases =
     ∷ (eventsIn receiver asSlave (from525 ++ answered 4 0xF 0 ++ spoilt 8 1) gives 2 ∷ 3 ∷ [])
     ∷ (eventsIn receiver asSlave (from525 ++ answered 4 0xF 0 ++ spoilt 8 1 ++ 1 ∷ []) gives 2 ∷ 3 ∷ 8 ∷ [])
     -- "a repeated byte is an attempt"
-    ∷ (suc (slotsTaken asSlave (from525 ++ answered 4 0xF 0 ++ answered 8 1 0 ++ times 20 (spoilt 8 0x35 ++ 1 ∷ []))) ∷ []
+    ∷ (suc (slotsTaken asSlave
+    (from525 ++ answered 4 0xF 0 ++ answered 8 1 0 ++ times 20 (spoilt 8 0x35 ++ 1 ∷ []))) ∷ []
     gives 205 ∷ [])
     -- the end is normal where "all bytes are ACKed" in the last attempt, and only there
     ∷ (eventsIn receiver asSlave (frameOf 16 16) gives 2 ∷ 3 ∷ 4 ∷ times 15 (5 ∷ []) ++ 6 ∷ [])
@@ -234,7 +235,8 @@ slaveCases =
     -- "A locked unit passes over broadcasts of others than the holder"
     ∷ (stayedIn (slaveOf true true true) (frameAfter receiver asSlave (toAll 0xFFF)) 16
     gives 1 ∷ 1 ∷ 0 ∷ 0 ∷ 1 ∷ 1 ∷ times 10 (0 ∷ []))
-    ∷ (stayedIn (slaveOf true true true) (frameAfter receiver asSlave (broadcastOf 0x111 0xFFF)) 16 gives times 16 (0 ∷ []))
+    ∷ (stayedIn (slaveOf true true true) (frameAfter receiver asSlave (broadcastOf 0x111 0xFFF)) 16
+    gives times 16 (0 ∷ []))
     -- "bad parity in any field ends it", with P, that of the slave address where an address has it
     ∷ (eventsIn receiver asSlave (0 ∷ spoilt 12 0x525 ++ field 12 0xFFF) gives 2 ∷ 8 ∷ [])
     ∷ (eventsIn receiver asSlave (0 ∷ field 12 0x525 ++ spoilt 12 0xFFF) gives 2 ∷ 8 ∷ [])
@@ -267,12 +269,15 @@ masterCases =
     (drivenIn (masterOf456 0x123 true 0xB) asMaster (1 ∷ field 12 0x123 ++ answered 12 0x456 0 ++ answered 4 0xB 0)
     gives 1 ∷ field 12 0x123 ++ answered 12 0x456 1 ++ answered 4 0xB 1)
     -- length and data; "NAK after data repeats the byte"
-    ∷ (drivenIn (masterOf456 0x123 true 0xF) (writing 0x35) (answered 8 0x35 0 ++ answered 8 0x35 1 ++ answered 8 0x35 0)
+    ∷ (drivenIn (masterOf456 0x123 true 0xF) (writing 0x35)
+    (answered 8 0x35 0 ++ answered 8 0x35 1 ++ answered 8 0x35 0)
     gives answered 8 0x35 1 ++ answered 8 0x35 1 ++ answered 8 0x35 1)
-    ∷ (eventsIn (masterOf456 0x123 true 0xF) (writing 0x35) (answered 8 0x35 0 ++ answered 8 0x35 1 ++ answered 8 0x35 0)
+    ∷ (eventsIn (masterOf456 0x123 true 0xF) (writing 0x35)
+    (answered 8 0x35 0 ++ answered 8 0x35 1 ++ answered 8 0x35 0)
     gives 4 ∷ 5 ∷ [])
     -- the last attempt of a master too: 16 of 17 are made, and the request is aborted
-    ∷ (eventsIn (masterOf456 0x123 true 0xF) (writing 0x35) (answered 8 0x35 0 ++ times 17 (answered 8 0x35 1)) gives 4 ∷ 8 ∷ [])
+    ∷ (eventsIn (masterOf456 0x123 true 0xF) (writing 0x35) (answered 8 0x35 0 ++ times 17 (answered 8 0x35 1))
+    gives 4 ∷ 8 ∷ [])
     -- "NAK after slave address, control or length aborts, except in a broadcast, where A is ignored"
     ∷ (eventsIn (masterOf456 0x123 true 0xF) asMaster
     (1 ∷ field 12 0x123 ++ answered 12 0x456 0 ++ answered 4 0xF 1) gives 2 ∷ 8 ∷ [])

@@ -130,7 +130,8 @@ mcr-agreed : (v : ℕ) → not (mcrListed v) ≡ unlistedMcr v
 unfolding mcrListed
 mcr-agreed v =
     let below : v % 16 < 16 = omega arith in
-    ⊎-elim (λ (low : v < 0x80). rw (lt-leb 0x80 v low, eq-eqb (v / 128) 0 (omega (arith, low))) (agreed (v % 16) below .1))
+    ⊎-elim (λ (low : v < 0x80).
+    rw (lt-leb 0x80 v low, eq-eqb (v / 128) 0 (omega (arith, low))) (agreed (v % 16) below .1))
     (λ (high : 0x80 ≤ v).
     rw (le-leb 0x80 v high, ne-eqb (v / 128) 0 (λ e. omega (arith, high, e))) (agreed (v % 16) below .0))
     (below-or-not v 0x80)
