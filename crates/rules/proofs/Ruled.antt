@@ -23,7 +23,7 @@ use Rattle.rules.specs.Refusals.{Ruling, accepted, refused, Ruled, Word,
 use Rattle.rules.specs.Refusals.{readControls, writeControls, undefinedControls, unlistedMcr}
 use Rattle.rules.specs.Registers.{Told, wrote, restarted, gave, denied, toldOf, writeTold, writeDone, readTold}
 use Rattle.rules.specs.Registers.{writeRefusal, readRefusal, ctrRefusal, cmrRefusal, uarRefusal, tbfRefusal}
-use Rattle.rules.specs.Registers.{requestRefusal, mcrListed, readValue, registerOf, valueOf}
+use Rattle.rules.specs.Registers.{requestRefusal, controlListed, mcrListed, readValue, registerOf, valueOf}
 use Rattle.rules.specs.State.{State, isEmpty}
 use Rattle.rules.specs.Step.{answerOf, clashes, nextDrive, saidAs, slotOn, slotSaid, stepAs, stepOf}
 use Rattle.rules.specs.Step.{toldOn, toldSaid}
@@ -101,10 +101,10 @@ writes-agreed : (control : ℕ) → writesOf control ≡ among writeControls con
 unfolding writesOf among
 writes-agreed control = listed-four (eqb control 0xA) (eqb control 0xB) (eqb control 0xE) (eqb control 0xF)
 
--- an MCR that is accepted, by the test whether it is individual and by its control, against the tables
+-- MCR's control is listed where the tables do not refuse it
 abbrev Agreed : Bool → ℕ → Type 0
 Agreed individual control =
-    not (writesOf control || individual && (eqb control 0 || leb 3 control && leb control 7))
+    not (controlListed individual control)
     ≡ (among undefinedControls control || not individual && among readControls control)
 
 abbrev BothAgreed : ℕ → Type 0
