@@ -1,16 +1,16 @@
 -- Demand 1: the answer to a word is what the tables of refusals say, and a refusal leaves the unit as it was.
-use Prim.Native.Nat.{ℕ, _/_, _%_, _≤_}
+use Prim.Native.Nat.{ℕ, suc, _/_, _%_, _≤_, _<_}
 use mathlib.Core.Bool.{Bool, true, false, not, _&&_, _||_}
 use mathlib.Core.Logic.{⊎-elim}
 use mathlib.Core.List.{List}
 use mathlib.Core.Path.{_≡_, refl, sym, ap, _∙_, subst}
-use borrow.Author.Tests.{eqb-false, le-leb, lt-leb}
+use borrow.Author.Tests.{eq-eqb, eqb-false, le-leb, lt-leb, ne-eqb}
 use native.Mathlib.Omega.{arith}
 use lib.Dec.{T, eqb, leb, ltb}
 use lib.ListN.{drop, getD, length, List·getD-eq-default}
 use Rattle.line.specs.Choice.{pick}
 use Rattle.line.specs.Slot.{Class, slot, host, classOf, kindOf, slotOf, slots}
-use Rattle.line.proofs.Either.{by-value, either}
+use Rattle.line.proofs.Either.{below-or-not, by-value, either, same-or-not}
 use Rattle.line.specs.declared.slot.Slot.{Slot}
 use Rattle.line.specs.declared.slot.Slot.the-variants.{Level, Start, Idle, Stray}
 use Rattle.place.specs.Slaves.{writesOf}
@@ -20,9 +20,10 @@ use Rattle.rules.specs.declared.answer.Reply.{Reply}
 use Rattle.rules.specs.declared.answer.Reply.the-variants.{Taken}
 use Rattle.rules.specs.declared.state.Registers.{Registers}
 use Rattle.rules.specs.Refusals.{Ruling, accepted, refused, Ruled, Word, among, apart, lowest, rows, rulingOf}
+use Rattle.rules.specs.Refusals.{readControls, writeControls, undefinedControls, unlistedMcr}
 use Rattle.rules.specs.Registers.{Told, wrote, restarted, gave, denied, toldOf, writeTold, writeDone, readTold}
 use Rattle.rules.specs.Registers.{writeRefusal, readRefusal, ctrRefusal, cmrRefusal, uarRefusal, tbfRefusal}
-use Rattle.rules.specs.Registers.{requestRefusal, mcrListed, readValue, registerOf, valueOf}
+use Rattle.rules.specs.Registers.{requestRefusal, controlListed, mcrListed, readValue, registerOf, valueOf}
 use Rattle.rules.specs.State.{State, isEmpty}
 use Rattle.rules.specs.Step.{answerOf, clashes, nextDrive, saidAs, slotOn, slotSaid, stepAs, stepOf}
 use Rattle.rules.specs.Step.{toldOn, toldSaid}
@@ -93,6 +94,48 @@ mcr-rows : (x y : Bool) → ofNumber (pick (not x) 4 (pick y 6 0))
 mcr-rows false y = refl
 mcr-rows true y = request-row y
 
+-- ---- the controls
+
+-- the write controls that a frame goes by are those of the tables
+writes-agreed : (control : ℕ) → writesOf control ≡ among writeControls control
+unfolding writesOf among
+writes-agreed control = listed-four (eqb control 0xA) (eqb control 0xB) (eqb control 0xE) (eqb control 0xF)
+
+-- MCR's control is listed where the tables do not refuse it
+abbrev Agreed : Bool → ℕ → Type 0
+Agreed individual control =
+    not (controlListed individual control)
+    ≡ (among undefinedControls control || not individual && among readControls control)
+
+abbrev BothAgreed : ℕ → Type 0
+BothAgreed control = Agreed true control × Agreed false control
+
+-- what holds at n and, where k is less, at k holds at each k up to n
+up-to : (P : ℕ → Type 0) (n k : ℕ) → P n → (k < n → P k) → k < suc n → P k
+up-to P n k at less h =
+    ⊎-elim (λ (e : k ≡ n). subst P (sym e) at) (λ (o : k ≡ n → ⊥). less (omega (arith, h, o))) (same-or-not k n)
+
+-- each of the sixteen
+agreed : (control : ℕ) → control < 16 → BothAgreed control
+unfolding writesOf among
+agreed k =
+    let P = BothAgreed in
+    up-to P 15 k (refl, refl) (up-to P 14 k (refl, refl) (up-to P 13 k (refl, refl) (up-to P 12 k (refl, refl)
+    (up-to P 11 k (refl, refl) (up-to P 10 k (refl, refl) (up-to P 9 k (refl, refl) (up-to P 8 k (refl, refl)
+    (up-to P 7 k (refl, refl) (up-to P 6 k (refl, refl) (up-to P 5 k (refl, refl) (up-to P 4 k (refl, refl)
+    (up-to P 3 k (refl, refl) (up-to P 2 k (refl, refl) (up-to P 1 k (refl, refl) (up-to P 0 k (refl, refl)
+    (λ h. absurd (omega (arith, h))))))))))))))))))
+
+mcr-agreed : (v : ℕ) → not (mcrListed v) ≡ unlistedMcr v
+unfolding mcrListed
+mcr-agreed v =
+    let below : v % 16 < 16 = omega arith in
+    ⊎-elim (λ (low : v < 0x80).
+    rw (lt-leb 0x80 v low, eq-eqb (v / 128) 0 (omega (arith, low))) (agreed (v % 16) below .1))
+    (λ (high : 0x80 ≤ v).
+    rw (le-leb 0x80 v high, ne-eqb (v / 128) 0 (λ e. omega (arith, high, e))) (agreed (v % 16) below .0))
+    (below-or-not v 0x80)
+
 -- ---- writes
 
 -- a word that writes, with no stray bit
@@ -134,9 +177,9 @@ module _ (s : State) (w v : ℕ) (clean : eqb (w / 256 % 65536) 0 ≡ true) wher
   at-cmr =
       let r = s .core .regs in
       let y = (eqb v 0x08 || eqb v 0x0B) && (r .marq || r .strq) in
-      let z = (eqb v 0x08 && writesOf (r .control) || eqb v 0x0B) && ltb (length (s .tbf)) 2 in
+      let z = (eqb v 0x08 && among writeControls (r .control) || eqb v 0x0B) && ltb (length (s .tbf)) 2 in
       let u = eqb v 0x08 && r .bit && eqb (r .slave) (r .own) || eqb v 0x0B && not (r .enabled) in
-      rw clean (four-rows (eqb v 0x08 || eqb v 0x0B || eqb v 0x0F || eqb v 0x40) y z u
+      rw (clean, writes-agreed (r .control)) (four-rows (eqb v 0x08 || eqb v 0x0B || eqb v 0x0F || eqb v 0x40) y z u
       ∙ ap (λ (x : Bool). pick (not x || false || false || false) (refused 4) (pick (y || false) (refused 6)
       (pick z (refused 8) (pick u (refused 10) accepted))))
       (listed-four (eqb v 0x08) (eqb v 0x0B) (eqb v 0x0F) (eqb v 0x40)))
@@ -159,7 +202,10 @@ module _ (s : State) (w v : ℕ) (clean : eqb (w / 256 % 65536) 0 ≡ true) wher
 
   at-mcr : Right 0x6
   unfolding writeRefusal requestRefusal lowest among
-  at-mcr = rw clean (mcr-rows (mcrListed v) (s .core .regs .marq))
+  at-mcr =
+      let marq = s .core .regs .marq in
+      rw clean (mcr-rows (mcrListed v) marq
+      ∙ ap (λ (x : Bool). pick x (refused 4) (pick (marq || false || false) (refused 6) accepted)) (mcr-agreed v))
 
   at-tbf : Right 0xE
   unfolding writeRefusal tbfRefusal lowest among

@@ -4,6 +4,7 @@ use mathlib.Core.Path.{_≡_, refl}
 use mathlib.Core.List.{List, [], _∷_, _++_}
 use lib.Count.{ones, onesIn}
 use Rattle.line.specs.Cases.{Case, _gives_, allGiven, lineCases}
+use Rattle.line.specs.Choice.{_▹_}
 use Rattle.contest.specs.Cases.{contestCases}
 use Rattle.contest.specs.Contest.{numberOf, settled, remaining, lossOf, lossesOf, firstPlace}
 use Rattle.line.specs.Parity as parity
@@ -13,7 +14,7 @@ use Rattle.place.specs.Slaves as slaves
 use Rattle.place.specs.Drive as drive
 use Rattle.place.specs.Masters as masters
 use Rattle.place.specs.Step as level
-use Rattle.place.specs.Cases.{field, frameCases, slotsTaken}
+use Rattle.place.specs.Cases.{answered, field, frameCases, heard, released, slotsTaken, spoilt, times}
 use Rattle.isolation.specs.Runs.{run, answers}
 use Rattle.rules.specs.State as state
 use Rattle.rules.specs.Endings as endings
@@ -21,71 +22,91 @@ use Rattle.rules.specs.Slots as slots
 use Rattle.rules.specs.Registers as registers
 use Rattle.rules.specs.Step as step
 use Rattle.rules.specs.State.{reset, statusByte, resetRegisters}
+use Rattle.rules.specs.Registers.{strByte}
 use Rattle.rules.specs.Machine.{unit}
-use Rattle.rules.specs.Stories.{write, read, answered, header, exchange, toAll, setUp, story, received}
-use Rattle.rules.specs.Stories.{answering, taken, values, refusals, released, heard, asSlave, tells, asMaster}
-use Rattle.rules.specs.Stories.{reception, to456, asksToWrite, masterWrite, asksToRead, masterRead, wanted}
-use Rattle.rules.specs.Stories.{ranEmpty, lengthNak, lockTaken, readOut, lockCompleted, stranger6, holder6}
-use Rattle.rules.specs.Stories.{contender, loss, lastLoss, lost, lostTwice, lostAnew, heldBack, thirdFrame}
-use Rattle.rules.specs.Stories.{cleared, length256, group, general, masterStarts, masterWants, tooLong}
-use Rattle.rules.specs.Stories.{outlasted, outlastedBroken, noneTaken, ranEmpty7, unheard6, takenAnew}
-use Rattle.rules.specs.Stories.{comesAgain, twoOffered, twoSent, statusAsked, unheard, from525, readAll}
-use Rattle.rules.specs.Stories.{turnedDown, filled, wrote, controlsIn, oneOffered}
+use Rattle.rules.specs.Stories.{write, read, header, exchange, brokenOff, toAll, setUp, asReset, rcr, flg, lock}
+use Rattle.rules.specs.Stories.{rdr1, rdr2, tbf, rbf, _leaves_, answering, taken, values, refusals, wrote}
+use Rattle.rules.specs.Stories.{asSlave, tells, asMaster, reception, to456, asksToWrite, masterWrite, asksToRead}
+use Rattle.rules.specs.Stories.{masterRead, wanted, ranEmpty, lengthNak, heldBy, lockTaken, readOut}
+use Rattle.rules.specs.Stories.{lockCompleted, stranger6, holder6, contender, loss, lastLoss, lost, lostTwice}
+use Rattle.rules.specs.Stories.{lostAnew, heldBack, thirdFrame, cleared, length256, group, general, masterStarts}
+use Rattle.rules.specs.Stories.{masterWants, tooLong, triesOn, outlasted, outlastedBroken, noneTaken, ranEmpty7}
+use Rattle.rules.specs.Stories.{unheard6, takenAnew, comesAgain, twoOffered, twoSent, statusAsked, unheard}
+use Rattle.rules.specs.Stories.{from525, readAll, turnedDown, filled, controlsIn, oneOffered}
 
 -- "master 525H, FH, length 2: RBF begins 52H 5FH 02H"; "status after reset 80H"; the listing's example; the stories
 unfoldable pub unitCases : List Case
 unitCases =
-    (received reception gives 0x52 ∷ 0x5F ∷ 0x02 ∷ 0xA5 ∷ 0x5A ∷ [])
-    ∷ (story reception gives 15 ∷ 6 ∷ 0 ∷ 0 ∷ 0 ∷ 0 ∷ 0 ∷ 0 ∷ 5 ∷ [])
+    (reception leaves asReset ▹ rcr 0xF6 ▹ rdr2 5 ▹ rbf (0x52 ∷ 0x5F ∷ 0x02 ∷ 0xA5 ∷ 0x5A ∷ []))
     ∷ (statusByte resetRegisters true ∷ [] gives 0x80 ∷ [])
     ∷ (answers unit reset (0x2000_0000 ∷ 0x1600_008F ∷ 0x1100_0008 ∷ 0x0000_0002 ∷ 0x3000_0000 ∷ [])
     gives 0xA000_0150 ∷ 0x9000_0100 ∷ 0xF000_0008 ∷ 0x8000_0100 ∷ 0xF000_0001 ∷ [])
-    ∷ (story masterWrite gives 2 ∷ 15 ∷ 0 ∷ 0 ∷ 0 ∷ 0 ∷ 0 ∷ 0 ∷ 0 ∷ [])
-    ∷ (story masterRead gives 6 ∷ 15 ∷ 0 ∷ 0 ∷ 0 ∷ 0 ∷ 0 ∷ 4 ∷ 0 ∷ 2 ∷ 0xAA ∷ [])
-    ∷ (story (masterRead ++ write 0x1 0x08 ∷ []) gives 6 ∷ 15 ∷ 1 ∷ 0 ∷ 0 ∷ 0 ∷ 0 ∷ 0 ∷ 0 ∷ 2 ∷ 0xAA ∷ [])
-    ∷ (received masterRead gives 0x45 ∷ 0x63 ∷ 0x01 ∷ 0x77 ∷ [])
-    ∷ (story wanted gives 15 ∷ 1 ∷ 0 ∷ 1 ∷ 0 ∷ 0 ∷ 0 ∷ 0 ∷ 0 ∷ [])
-    ∷ (story ranEmpty gives 15 ∷ 3 ∷ 0 ∷ 0 ∷ 0 ∷ 1 ∷ 0x525 ∷ 0 ∷ 0 ∷ [])
-    ∷ (story lengthNak gives 15 ∷ 3 ∷ 0 ∷ 0 ∷ 0 ∷ 0 ∷ 0 ∷ 0 ∷ 0 ∷ [])
-    ∷ (story lockTaken gives 15 ∷ 7 ∷ 0 ∷ 0 ∷ 0 ∷ 1 ∷ 0x525 ∷ 0 ∷ 4 ∷ [])
-    ∷ (story lockCompleted gives 15 ∷ 6 ∷ 0 ∷ 0 ∷ 0 ∷ 0 ∷ 0 ∷ 0 ∷ 4 ∷ [])
-    ∷ (story stranger6 gives 15 ∷ 7 ∷ 0 ∷ 0 ∷ 0 ∷ 1 ∷ 0x525 ∷ 0 ∷ 4 ∷ [])
-    ∷ (story holder6 gives 15 ∷ 7 ∷ 0 ∷ 0 ∷ 0 ∷ 0 ∷ 0 ∷ 0 ∷ 4 ∷ [])
-    ∷ (story loss gives 15 ∷ 6 ∷ 1 ∷ 0 ∷ 0 ∷ 0 ∷ 0 ∷ 0 ∷ 4 ∷ 1 ∷ 0xAA ∷ [])
-    ∷ (story lastLoss gives 3 ∷ 6 ∷ 0 ∷ 0 ∷ 0 ∷ 0 ∷ 0 ∷ 0 ∷ 4 ∷ [])
-    ∷ (story lostTwice gives 3 ∷ 6 ∷ 0 ∷ 0 ∷ 0 ∷ 0 ∷ 0 ∷ 0 ∷ 4 ∷ [])
-    ∷ (story lostAnew gives 3 ∷ 6 ∷ 1 ∷ 0 ∷ 0 ∷ 0 ∷ 0 ∷ 0 ∷ 4 ∷ 1 ∷ 0xAA ∷ [])
-    ∷ (story (contender 0xFF ++ lost 7) gives 15 ∷ 15 ∷ 1 ∷ 0 ∷ 1 ∷ 0 ∷ 0 ∷ 0 ∷ 0 ∷ 1 ∷ 0xAA ∷ [])
-    ∷ (story (contender 0xFF ++ lost 8) gives 3 ∷ 15 ∷ 0 ∷ 0 ∷ 1 ∷ 0 ∷ 0 ∷ 0 ∷ 0 ∷ [])
-    ∷ (received loss gives 0x02 ∷ 0x3F ∷ 0x01 ∷ 0x42 ∷ [])
-    ∷ (story heldBack gives 15 ∷ 6 ∷ 1 ∷ 0 ∷ 0 ∷ 0 ∷ 0 ∷ 0 ∷ 5 ∷ [])
-    ∷ (story thirdFrame gives 15 ∷ 6 ∷ 0 ∷ 0 ∷ 0 ∷ 0 ∷ 0 ∷ 0 ∷ 5 ∷ [])
-    ∷ (received thirdFrame gives 0x52 ∷ 0x5F ∷ 0x02 ∷ 0xA7 ∷ 0x5B ∷ [])
-    ∷ (story (masterStarts 0x8F) gives 0 ∷ 15 ∷ 1 ∷ 0 ∷ 0 ∷ 0 ∷ 0 ∷ 0 ∷ 0 ∷ 2 ∷ 0xAA ∷ [])
-    ∷ (story (masterStarts 0x83) gives 15 ∷ 15 ∷ 1 ∷ 0 ∷ 0 ∷ 0 ∷ 0 ∷ 0 ∷ 0 ∷ 2 ∷ 0xAA ∷ [])
-    ∷ (story masterWants gives 1 ∷ 15 ∷ 1 ∷ 0 ∷ 0 ∷ 0 ∷ 0 ∷ 0 ∷ 0 ∷ [])
-    ∷ (story (masterWants ++ answered 8 0xAA 0) gives 3 ∷ 15 ∷ 0 ∷ 0 ∷ 0 ∷ 0 ∷ 0 ∷ 0 ∷ 0 ∷ [])
-    ∷ (story tooLong gives 15 ∷ 7 ∷ 0 ∷ 0 ∷ 0 ∷ 1 ∷ 0x525 ∷ 0 ∷ 19 ∷ [])
-    ∷ (story cleared gives 15 ∷ 6 ∷ 0 ∷ 0 ∷ 0 ∷ 0 ∷ 0 ∷ 0 ∷ 4 ∷ [])
-    ∷ (story length256 gives 15 ∷ 7 ∷ 0 ∷ 0 ∷ 0 ∷ 0 ∷ 0 ∷ 0 ∷ 4 ∷ [])
-    ∷ (received length256 gives 0x52 ∷ 0x5F ∷ 0x00 ∷ 0x42 ∷ [])
-    ∷ (story group gives 15 ∷ 8 ∷ 0 ∷ 0 ∷ 1 ∷ 0 ∷ 0 ∷ 0 ∷ 3 ∷ [])
-    ∷ (story (group ++ answered 8 0x77 1) gives 15 ∷ 10 ∷ 0 ∷ 0 ∷ 0 ∷ 0 ∷ 0 ∷ 0 ∷ 4 ∷ [])
-    ∷ (story general gives 15 ∷ 11 ∷ 0 ∷ 0 ∷ 0 ∷ 0 ∷ 0 ∷ 0 ∷ 4 ∷ [])
-    ∷ (story outlasted gives 15 ∷ 6 ∷ 0 ∷ 0 ∷ 0 ∷ 1 ∷ 0x525 ∷ 0 ∷ 4 ∷ [])
-    ∷ (story outlastedBroken gives 15 ∷ 7 ∷ 0 ∷ 0 ∷ 0 ∷ 1 ∷ 0x525 ∷ 0 ∷ 4 ∷ [])
-    ∷ (story noneTaken gives 15 ∷ 7 ∷ 0 ∷ 0 ∷ 0 ∷ 0 ∷ 0 ∷ 0 ∷ 4 ∷ [])
-    ∷ (story ranEmpty7 gives 15 ∷ 3 ∷ 0 ∷ 0 ∷ 0 ∷ 0 ∷ 0 ∷ 0 ∷ 0 ∷ [])
-    ∷ (story unheard6 gives 15 ∷ 7 ∷ 0 ∷ 0 ∷ 0 ∷ 1 ∷ 0x525 ∷ 0 ∷ 4 ∷ [])
+    -- a master's request, from its start code to a normal end
+    ∷ (masterStarts 0x8F leaves asReset ▹ rcr 0x0F ▹ flg 0x40 ▹ tbf (0x02 ∷ 0xAA ∷ []))
+    ∷ (masterStarts 0x83 leaves asReset ▹ flg 0x40 ▹ tbf (0x02 ∷ 0xAA ∷ []))
+    ∷ (masterWrite leaves asReset ▹ rcr 0x2F)
+    ∷ (masterRead leaves asReset ▹ rcr 0x6F ▹ rdr1 4 ▹ tbf (0x02 ∷ 0xAA ∷ [])
+    ▹ rbf (0x45 ∷ 0x63 ∷ 0x01 ∷ 0x77 ∷ []))
+    ∷ (masterRead ++ write 0x1 0x08 ∷ [] leaves asReset ▹ rcr 0x6F ▹ flg 0x40 ▹ tbf (0x02 ∷ 0xAA ∷ [])
+    ▹ rbf (0x45 ∷ 0x63 ∷ 0x01 ∷ 0x77 ∷ []))
+    -- 3H that breaks off locks the slave, and not its master
+    ∷ (asksToRead ++ brokenOff 0x123 0x456 0x3 leaves asReset ▹ rcr 0x7F ▹ rdr1 4 ▹ tbf (0x02 ∷ 0xAA ∷ [])
+    ▹ rbf (0x45 ∷ 0x63 ∷ 0x02 ∷ 0x99 ∷ []))
+    -- TBF that runs empty, of a master and of a slave
+    ∷ (masterWants leaves asReset ▹ rcr 0x1F ▹ flg 0x40)
+    ∷ (masterWants ++ answered 8 0xAA 0 leaves asReset ▹ rcr 0x3F)
+    ∷ (wanted leaves asReset ▹ rcr 0xF1 ▹ flg 0x20)
+    ∷ (ranEmpty leaves asReset ▹ rcr 0xF3 ▹ lock 0x1525)
+    ∷ (ranEmpty7 leaves asReset ▹ rcr 0xF3)
+    ∷ (lengthNak leaves asReset ▹ rcr 0xF3)
+    -- contests lost
+    ∷ (loss leaves asReset ▹ rcr 0xF6 ▹ flg 0x40 ▹ rdr2 4 ▹ tbf (0x01 ∷ 0xAA ∷ [])
+    ▹ rbf (0x02 ∷ 0x3F ∷ 0x01 ∷ 0x42 ∷ []))
+    ∷ (lastLoss leaves asReset ▹ rcr 0x36 ▹ rdr2 4 ▹ rbf (0x02 ∷ 0x3F ∷ 0x01 ∷ 0x42 ∷ []))
+    ∷ (lostTwice leaves asReset ▹ rcr 0x36 ▹ rdr2 4 ▹ rbf (0x02 ∷ 0x3F ∷ 0x01 ∷ 0x42 ∷ []))
+    ∷ (lostAnew leaves asReset ▹ rcr 0x36 ▹ flg 0x40 ▹ rdr2 4 ▹ tbf (0x01 ∷ 0xAA ∷ [])
+    ▹ rbf (0x02 ∷ 0x3F ∷ 0x01 ∷ 0x42 ∷ []))
+    ∷ (contender 0xFF ++ lost 7 leaves asReset ▹ flg 0x50 ▹ tbf (0x01 ∷ 0xAA ∷ []))
+    ∷ (contender 0xFF ++ lost 8 leaves asReset ▹ rcr 0x3F ▹ flg 0x10)
+    ∷ (contender 0xAF ++ lost 3 leaves asReset ▹ rcr 0x3F ▹ flg 0x10)
+    ∷ (heldBack leaves asReset ▹ rcr 0xF6 ▹ flg 0x40 ▹ rdr2 5 ▹ rbf (0x52 ∷ 0x5F ∷ 0x02 ∷ 0xA5 ∷ 0x5A ∷ []))
+    -- receptions: "at length accepted", of a slave and of a master; what is offered stays
+    ∷ (setUp ++ write 0x0 0x10 ∷ header 0x525 0x123 0xF 0 ++ answered 8 1 0
+    leaves asReset ▹ rcr 0xF4 ▹ flg 0x10 ▹ rdr2 3 ▹ rbf (0x52 ∷ 0x5F ∷ 0x01 ∷ []))
+    ∷ (asksToRead ++ header 0x123 0x456 0x3 0 ++ answered 8 1 0
+    leaves asReset ▹ rcr 0x4F ▹ flg 0x40 ▹ rdr1 3 ▹ tbf (0x02 ∷ 0xAA ∷ []) ▹ rbf (0x45 ∷ 0x63 ∷ 0x01 ∷ []))
+    ∷ (twoOffered ++ write 0x0 0x10 ∷ exchange 0x525 0x123 0xF 1 (0x42 ∷ [])
+    leaves asReset ▹ rcr 0xF6 ▹ flg 0x20 ▹ rdr2 4 ▹ tbf (0x02 ∷ 0x11 ∷ 0x22 ∷ [])
+    ▹ rbf (0x52 ∷ 0x5F ∷ 0x01 ∷ 0x42 ∷ []))
+    ∷ (thirdFrame leaves asReset ▹ rcr 0xF6 ▹ rdr2 5 ▹ rbf (0x52 ∷ 0x5F ∷ 0x02 ∷ 0xA7 ∷ 0x5B ∷ []))
+    ∷ (cleared leaves asReset ▹ rcr 0xF6 ▹ rdr2 4 ▹ rbf (0x52 ∷ 0x5F ∷ 0x01 ∷ 0x42 ∷ []))
+    ∷ (length256 leaves asReset ▹ rcr 0xF7 ▹ rdr2 4 ▹ rbf (0x52 ∷ 0x5F ∷ 0x00 ∷ 0x42 ∷ []))
+    ∷ (tooLong leaves asReset ▹ rcr 0xF7 ▹ lock 0x1525 ▹ rdr2 19
+    ▹ rbf (0x52 ∷ 0x5B ∷ 0x11 ∷ times 16 (0x35 ∷ [])))
+    -- cut in its length, a reception has not begun; reset drops one that has
+    ∷ (setUp ++ write 0x0 0x10 ∷ header 0x525 0x123 0xF 0 ++ 0 ∷ 0 ∷ 3 ∷ [] leaves asReset ▹ flg 0x10)
+    ∷ (setUp ++ write 0x0 0x10 ∷ header 0x525 0x123 0xB 0 ++ answered 8 2 0 ++ write 0x0 0x08 ∷ answered 8 0x99 0
+    ++ 3 ∷ [] leaves asReset)
+    -- broadcasts: "bad parity in any field ends it", with P
+    ∷ (group leaves asReset ▹ rcr 0xF8 ▹ flg 0x10 ▹ rdr2 3 ▹ rbf (0x52 ∷ 0x5F ∷ 0x01 ∷ []))
+    ∷ (group ++ answered 8 0x77 1 leaves asReset ▹ rcr 0xFA ▹ rdr2 4 ▹ rbf (0x52 ∷ 0x5F ∷ 0x01 ∷ 0x77 ∷ []))
+    ∷ (group ++ spoilt 8 0x77 leaves asReset ▹ rcr 0xFB ▹ rdr2 3 ▹ rbf (0x52 ∷ 0x5F ∷ 0x01 ∷ []))
+    ∷ (general leaves asReset ▹ rcr 0xFB ▹ rdr2 4 ▹ rbf (0x52 ∷ 0x5B ∷ 0x02 ∷ 0x77 ∷ []))
+    -- the lock
+    ∷ (lockTaken leaves asReset ▹ rcr 0xF7 ▹ lock 0x1525 ▹ rdr2 4 ▹ rbf (0x52 ∷ 0x5B ∷ 0x02 ∷ 0x99 ∷ []))
+    ∷ (lockCompleted leaves asReset ▹ rcr 0xF6 ▹ rdr2 4 ▹ rbf (0x52 ∷ 0x5B ∷ 0x01 ∷ 0x98 ∷ []))
+    ∷ (stranger6 leaves asReset ▹ rcr 0xF7 ▹ lock 0x1525 ▹ rdr2 4 ▹ rbf (0x52 ∷ 0x5B ∷ 0x02 ∷ 0x99 ∷ []))
+    ∷ (holder6 leaves asReset ▹ rcr 0xF7 ▹ rdr2 4 ▹ rbf (0x52 ∷ 0x5B ∷ 0x02 ∷ 0x99 ∷ []))
+    ∷ (unheard6 leaves asReset ▹ rcr 0xF7 ▹ lock 0x1525 ▹ rdr2 4 ▹ rbf (0x52 ∷ 0x5B ∷ 0x02 ∷ 0x99 ∷ []))
+    ∷ (outlasted leaves asReset ▹ rcr 0xF6 ▹ lock 0x1525 ▹ rdr2 4 ▹ rbf (0x52 ∷ 0x5F ∷ 0x01 ∷ 0x97 ∷ []))
+    ∷ (outlastedBroken leaves asReset ▹ rcr 0xF7 ▹ lock 0x1525 ▹ rdr2 4 ▹ rbf (0x52 ∷ 0x5F ∷ 0x02 ∷ 0x99 ∷ []))
+    ∷ (noneTaken leaves asReset ▹ rcr 0xF7 ▹ rdr2 4 ▹ rbf (0x52 ∷ 0x5F ∷ 0x02 ∷ 0x99 ∷ []))
+    ∷ (takenAnew leaves asReset ▹ rcr 0xF7 ▹ lock 0x1111 ▹ rdr2 4 ▹ rbf (0x11 ∷ 0x1A ∷ 0x02 ∷ 0x99 ∷ []))
     -- "all bytes ACKed unlocks": of AH and of 3H too
-    ∷ (story (lockTaken ++ readOut ++ exchange 0x525 0x123 0xA 1 (0x98 ∷ []))
-    gives 15 ∷ 6 ∷ 0 ∷ 0 ∷ 0 ∷ 0 ∷ 0 ∷ 0 ∷ 4 ∷ [])
-    ∷ (story (lockTaken ++ readOut ++ oneOffered ++ exchange 0x525 0x123 0x3 1 (0x11 ∷ []))
-    gives 15 ∷ 2 ∷ 0 ∷ 0 ∷ 1 ∷ 0 ∷ 0 ∷ 0 ∷ 4 ∷ [])
-    -- cut in its length, a reception has not begun
-    ∷ (story (setUp ++ write 0x0 0x10 ∷ header 0x525 0x123 0xF 0 ++ 0 ∷ 0 ∷ 3 ∷ [])
-    gives 15 ∷ 15 ∷ 0 ∷ 0 ∷ 1 ∷ 0 ∷ 0 ∷ 0 ∷ 0 ∷ [])
-    ∷ (story takenAnew gives 15 ∷ 7 ∷ 0 ∷ 0 ∷ 0 ∷ 1 ∷ 0x111 ∷ 0 ∷ 4 ∷ [])
+    ∷ (lockTaken ++ readOut ++ exchange 0x525 0x123 0xA 1 (0x98 ∷ [])
+    leaves asReset ▹ rcr 0xF6 ▹ rdr2 4 ▹ rbf (0x52 ∷ 0x5A ∷ 0x01 ∷ 0x98 ∷ []))
+    ∷ (lockTaken ++ readOut ++ oneOffered ++ exchange 0x525 0x123 0x3 1 (0x11 ∷ [])
+    leaves asReset ▹ rcr 0xF2 ▹ flg 0x10 ▹ rdr2 4)
     ∷ []
 
 -- answers word by word, with what is driven
@@ -101,19 +122,24 @@ drivenCases =
     -- "3H, 7H: .. length and bytes from TBF"; "NAK after data repeats the byte"
     ∷ (answering twoOffered twoSent
     gives taken (asSlave (heard 4 0 ++ answered 8 2 1 ++ answered 8 0x11 1 ++ answered 8 0x11 1 ++ answered 8 0x22 1)))
-    ∷ (story (twoOffered ++ twoSent) gives 15 ∷ 2 ∷ 0 ∷ 0 ∷ 0 ∷ 0 ∷ 0 ∷ 0 ∷ 0 ∷ [])
+    ∷ (twoOffered ++ twoSent leaves asReset ▹ rcr 0xF2)
     -- "slave sending at control ACK"; the last byte leaves TBF, and none is wanted
-    ∷ (story (twoOffered ++ header 0x525 0x123 0x7 0) gives 15 ∷ 0 ∷ 0 ∷ 1 ∷ 0 ∷ 0 ∷ 0 ∷ 0 ∷ 0 ∷ 0x11 ∷ 0x22 ∷ [])
-    ∷ (story (twoOffered ++ header 0x525 0x123 0x7 0 ++ answered 8 2 0 ++ answered 8 0x11 0)
-    gives 15 ∷ 0 ∷ 0 ∷ 1 ∷ 0 ∷ 0 ∷ 0 ∷ 0 ∷ 0 ∷ [])
+    ∷ (twoOffered ++ header 0x525 0x123 0x7 0 leaves asReset ▹ rcr 0xF0 ▹ flg 0x20 ▹ tbf (0x11 ∷ 0x22 ∷ []))
+    ∷ (twoOffered ++ header 0x525 0x123 0x7 0 ++ answered 8 2 0 ++ answered 8 0x11 0
+    leaves asReset ▹ rcr 0xF0 ▹ flg 0x20)
     -- "With MARQ set and idle as the latest slot, the unit drives start"; "A refusal changes no state"
     ∷ (answering (asksToWrite 0x8F ++ turnedDown) (3 ∷ exchange 0x123 0x456 0xF 2 (0xAA ∷ 0xBB ∷ []))
     gives taken (asMaster 1 0xF (answered 8 2 1 ++ answered 8 0xAA 1 ++ answered 8 0xBB 1)))
     ∷ (answering asksToRead (3 ∷ exchange 0x123 0x456 0x3 1 (0x77 ∷ []))
     gives taken (asMaster 1 0x3 (heard 8 0 ++ heard 8 0)))
+    -- "A judgement is made with the P slot's word, from the state then": 0FH before P
+    ∷ (answering (setUp ++ write 0x0 0x10 ∷ from525 ++ answered 12 0x123 0 ++ 1 ∷ 1 ∷ 1 ∷ 1 ∷ write 0x1 0x0F ∷ [])
+    (0 ∷ 1 ∷ []) gives taken (1 ∷ 1 ∷ []))
     -- "except in a broadcast, where A is ignored"
     ∷ (answering (asksToWrite 0x0F) (3 ∷ toAll 0x123 0x456 0xF 2 ++ answered 8 0xAA 1 ++ answered 8 0xBB 1 ++ 3 ∷ [])
     gives taken (asMaster 0 0xF (answered 8 2 1 ++ answered 8 0xAA 1 ++ answered 8 0xBB 1)))
+    ∷ (asksToWrite 0x0F ++ toAll 0x123 0x456 0xF 2 ++ answered 8 0xAA 1 ++ answered 8 0xBB 1
+    leaves asReset ▹ rcr 0x2F)
     -- "the unit goes on as a receiver of that frame", and tries again after it
     ∷ (answering (contender 0x9F) (3 ∷ exchange 0x023 0x123 0xF 1 (0x42 ∷ []))
     gives taken
@@ -123,30 +149,34 @@ drivenCases =
     -- a locked unit drives start too
     ∷ (answering (lockTaken ++ readOut ++ to456 0x8F ++ filled 2 ++ write 0x1 0x08 ∷ []) (3 ∷ []) gives taken (2 ∷ []))
     -- "NAK after slave address .. aborts"; so do two starts
-    ∷ (story (asksToWrite 0x8F ++ 2 ∷ 1 ∷ field 12 0x123 ++ answered 12 0x456 1)
-    gives 3 ∷ 15 ∷ 0 ∷ 0 ∷ 0 ∷ 0 ∷ 0 ∷ 0 ∷ 0 ∷ [])
-    ∷ (story (asksToWrite 0x83 ++ 2 ∷ 2 ∷ []) gives 7 ∷ 15 ∷ 0 ∷ 0 ∷ 0 ∷ 0 ∷ 0 ∷ 0 ∷ 0 ∷ 2 ∷ 0xAA ∷ 0xBB ∷ [])
+    ∷ (asksToWrite 0x8F ++ 2 ∷ 1 ∷ field 12 0x123 ++ answered 12 0x456 1 leaves asReset ▹ rcr 0x3F)
+    ∷ (asksToWrite 0x83 ++ 2 ∷ 2 ∷ [] leaves asReset ▹ rcr 0x7F ▹ tbf (0x02 ∷ 0xAA ∷ 0xBB ∷ []))
     -- a request made after the start slot outlives that frame; one that holds back drives start once RBF is empty
     ∷ (answering (setUp ++ to456 0x8F ++ filled 2 ++ 2 ∷ write 0x1 0x08 ∷ 1 ∷ []) (3 ∷ []) gives taken (2 ∷ []))
     ∷ (answering heldBack (3 ∷ read 0xE ∷ read 0xE ∷ read 0xE ∷ read 0xE ∷ read 0xE ∷ [])
     gives taken (1 ∷ []) ++ values (0x52 ∷ 0x5F ∷ 0x02 ∷ 0xA5 ∷ []) ++ 0xA000_025A ∷ [])
     -- "0H, 6H: length 1 and the status byte. 4H, 5H: .. the holder's low 8 bits, or its high 4 bits"
-    ∷ (answering lockTaken
-    (exchange 0x111 0x123 0x0 1 (0x96 ∷ []) ++ exchange 0x111 0x123 0x4 1 (0x25 ∷ [])
-    ++ exchange 0x111 0x123 0x5 1 (0x05 ∷ []) ++ header 0x111 0x123 0x6 1 ++ 3 ∷ [])
-    gives taken (tells 0x96 ++ tells 0x25 ++ tells 0x05 ++ asSlave (heard 4 1)))
+    ∷ (answering (heldBy 0xA37)
+    (exchange 0x111 0x123 0x0 1 (0x96 ∷ []) ++ exchange 0x111 0x123 0x4 1 (0x37 ∷ [])
+    ++ exchange 0x111 0x123 0x5 1 (0x0A ∷ []) ++ header 0x111 0x123 0x6 1 ++ 3 ∷ [])
+    gives taken (tells 0x96 ++ tells 0x37 ++ tells 0x0A ++ asSlave (heard 4 1)))
     -- "6H unlocks when its byte is ACKed"; "Unlocked, 4H is NAK and 5H gives 00H"
     ∷ (answering (lockTaken ++ readOut)
     (exchange 0x525 0x123 0x6 1 (0x94 ∷ []) ++ exchange 0x111 0x123 0x6 1 (0x90 ∷ [])
     ++ exchange 0x111 0x123 0x5 1 (0x00 ∷ []) ++ header 0x111 0x123 0x4 1 ++ 3 ∷ [])
     gives taken (tells 0x94 ++ tells 0x90 ++ tells 0x00 ++ asSlave (heard 4 1)))
     ∷ (answering twoOffered (exchange 0x525 0x123 0x0 1 (0x91 ∷ [])) gives taken (tells 0x91))
+    ∷ (twoOffered ++ exchange 0x525 0x123 0x0 1 (0x91 ∷ [])
+    leaves asReset ▹ flg 0x20 ▹ tbf (0x02 ∷ 0x11 ∷ 0x22 ∷ []))
     -- "A status or lock byte is fixed when its data field first begins": 0BH comes too late for both attempts
     ∷ (answering (setUp ++ filled 2 ++ from525 ++ statusAsked ++ write 0x1 0x0B ∷ unheard 1) (answered 8 0x90 0)
     gives taken (0 ∷ 0 ∷ 1 ∷ 0 ∷ 0 ∷ 0 ∷ 0 ∷ 0 ∷ 1 ∷ 1 ∷ []))
     -- "UAR1 (.. mode)": in mode 1 a 17th attempt is made
     ∷ (answering (write 0x2 0x33 ∷ write 0x3 0x12 ∷ from525 ++ statusAsked ++ unheard 16) (answered 8 0x90 0)
     gives taken (0 ∷ 0 ∷ 1 ∷ 0 ∷ 0 ∷ 0 ∷ 0 ∷ 0 ∷ 1 ∷ 1 ∷ []))
+    -- the same of a master: after 16 attempts its request is aborted, in mode 1 the 17th and 18th are made
+    ∷ (triesOn 0x32 leaves asReset ▹ rcr 0x3F)
+    ∷ (triesOn 0x33 leaves asReset ▹ rcr 0x2F)
     -- "UAR1 (own address low 4 bits ..)": written last, it keeps the high 8
     ∷ (answering (write 0x3 0x12 ∷ write 0x2 0x32 ∷ from525) (answered 12 0x123 0)
     gives taken (released 12 ++ 0 ∷ 1 ∷ []))
@@ -163,16 +193,21 @@ registerCases =
     gives values (0x50 ∷ 0x00 ∷ 0x00 ∷ 0x00 ∷ 0x00 ∷ 0x00 ∷ 0xFF ∷ []) ++ refusals (9 ∷ 10 ∷ []))
     -- "40H copy the lock into LOR, zeros if unlocked"
     ∷ (answering lockTaken (read 0x4 ∷ read 0x5 ∷ []) gives values (0x00 ∷ 0x00 ∷ []))
-    ∷ (answering (lockTaken ++ write 0x1 0x40 ∷ []) readAll
-    gives values (0x40 ∷ 0x00 ∷ 0x00 ∷ 0x04 ∷ 0x25 ∷ 0x15 ∷ 0xF7 ∷ 0x52 ∷ []))
+    ∷ (answering (heldBy 0xA37 ++ write 0x1 0x40 ∷ []) readAll
+    gives values (0x40 ∷ 0x00 ∷ 0x00 ∷ 0x04 ∷ 0x37 ∷ 0x1A ∷ 0xF7 ∷ 0xA3 ∷ []))
     ∷ (answering (lockTaken ++ write 0x1 0x40 ∷ exchange 0x525 0x123 0x6 1 (0x96 ∷ []) ++ write 0x1 0x40 ∷ [])
     (read 0x4 ∷ read 0x5 ∷ []) gives values (0x00 ∷ 0x00 ∷ []))
     ∷ (answering masterRead readAll gives values (0x00 ∷ 0x00 ∷ 0x04 ∷ 0x00 ∷ 0x00 ∷ 0x00 ∷ 0x6F ∷ 0x45 ∷ []))
     -- "FLG (MARQ, STRQ, SLRE in bits 6-4)", "idle not seen", and what is driven after host words and a level
     ∷ (answering (asksToRead ++ write 0x0 0x10 ∷ []) (read 0x1 ∷ 3 ∷ read 0x1 ∷ 1 ∷ read 0x1 ∷ [])
     gives 0xA000_0150 ∷ 0x8000_0200 ∷ 0xA000_0250 ∷ 0x8000_0100 ∷ 0xA000_0150 ∷ [])
+    -- "0FH clear SLRE", and nothing else
+    ∷ (answering (asksToRead ++ write 0x0 0x10 ∷ []) (write 0x1 0x0F ∷ read 0x1 ∷ [])
+    gives 0x9000_0100 ∷ 0xA000_0140 ∷ [])
     ∷ (answering (twoOffered ++ write 0x0 0x10 ∷ write 0x0 0x00 ∷ []) (read 0x1 ∷ write 0x1 0x0F ∷ read 0x1 ∷ [])
     gives 0xA000_0130 ∷ 0x9000_0100 ∷ 0xA000_0120 ∷ [])
+    -- "STR (TFL, TEP, RFL, REP ..)": of so many bytes in TBF and in RBF; no list of words fills RBF
+    ∷ (strByte 0 1 ∷ strByte 1 0 ∷ strByte 32 39 ∷ strByte 33 40 ∷ [] gives 0x40 ∷ 0x10 ∷ 0x00 ∷ 0xA0 ∷ [])
     -- an offer brings no code
     ∷ (answering (reception ++ oneOffered) (read 0x8 ∷ []) gives values (0xF6 ∷ []))
     -- "MCR control undefined; MCR broadcast with a read control": FH to 0H, individual and broadcast
@@ -188,8 +223,14 @@ registerCases =
     ∷ (answering (setUp ++ write 0x0 0x10 ∷ []) (write 0x2 0x32 ∷ write 0x3 0x12 ∷ []) gives refusals (6 ∷ 6 ∷ []))
     ∷ (answering lockTaken (write 0x2 0x32 ∷ write 0x3 0x12 ∷ []) gives refusals (6 ∷ 6 ∷ []))
     -- 7, "TBF write at 33 bytes"; TFL
-    ∷ (answering (filled 32) (write 0xE 0 ∷ write 0xE 0 ∷ read 0x0 ∷ [])
-    gives 0x9000_0100 ∷ 0xF000_0007 ∷ 0xA000_0190 ∷ [])
+    ∷ (answering (filled 32) (read 0x0 ∷ write 0xE 0 ∷ write 0xE 0 ∷ read 0x0 ∷ [])
+    gives 0xA000_0110 ∷ 0x9000_0100 ∷ 0xF000_0007 ∷ 0xA000_0190 ∷ [])
+    -- "Reset: .. waiting for a start, idle not seen": a 0 is driven no more, nor is start
+    ∷ (answering (setUp ++ from525 ++ field 12 0x123) (write 0x0 0x08 ∷ 1 ∷ []) gives 0x9000_0100 ∷ 0x8000_0100 ∷ [])
+    ∷ (answering (3 ∷ write 0x0 0x08 ∷ setUp ++ to456 0x83) (write 0x1 0x08 ∷ []) gives wrote (0 ∷ []))
+    -- 10, "individual to the own address"; a broadcast to the own group is accepted
+    ∷ (answering (setUp ++ write 0x4 0x30 ∷ write 0x5 0x12 ∷ write 0x6 0x8F ∷ filled 2)
+    (write 0x1 0x08 ∷ write 0x6 0x0F ∷ write 0x1 0x08 ∷ []) gives wrote (10 ∷ 0 ∷ 0 ∷ []))
     -- 8, "TBF under 2 bytes"; 10, "0BH with sending disabled"
     ∷ (answering (setUp ++ to456 0x8F ++ filled 1) (write 0x1 0x08 ∷ write 0x1 0x0B ∷ []) gives refusals (8 ∷ 8 ∷ []))
     ∷ (answering (filled 2) (write 0x1 0x0B ∷ read 0x1 ∷ []) gives refusals (10 ∷ []) ++ values (0x00 ∷ []))

@@ -14,11 +14,10 @@ use Rattle.line.specs.Numbers.{refusedOutOfTurn, refusedFull, refusedTooFew, re
 use Rattle.line.specs.Numbers.{ctrNothing, ctrReset, ctrSetSlre, cmrRequest, cmrOffer, cmrClearSlre, cmrCopyLock}
 use Rattle.line.specs.Numbers.{regCtr, regCmr, regUar1, regUar2, regSar1, regSar2, regMcr, regTbf}
 use Rattle.line.specs.Numbers.{regStr, regFlg, regRdr1, regRdr2, regLor1, regLor2, regRcr, regRbf}
-use Rattle.place.specs.Slaves.{writesOf}
 use Rattle.rules.specs.declared.answer.Answer.{Answer}
 use Rattle.rules.specs.declared.answer.Answer.the-variants.{Given, Refused}
 use Rattle.rules.specs.declared.state.Registers.{Registers}
-use Rattle.rules.specs.Registers.{mcrListed, registerOf, valueOf}
+use Rattle.rules.specs.Registers.{registerOf, valueOf}
 use Rattle.rules.specs.State.{State}
 use Rattle.rules.specs.Step.{nextDrive}
 
@@ -52,6 +51,17 @@ writtenRegisters = regCtr ∷ regCmr ∷ regUar1 ∷ regUar2 ∷ regSar1 ∷ reg
 abbrev pub readRegisters : List ℕ
 readRegisters = regStr ∷ regFlg ∷ regRdr1 ∷ regRdr2 ∷ regLor1 ∷ regLor2 ∷ regRcr ∷ regRbf ∷ []
 
+-- the sixteen controls of "Slaves": 0H, 6H, 4H, 5H, 3H and 7H are read with, "AH, BH, EH, FH" written with, and
+-- "1H, 2H, 8H, 9H, CH, DH: NAK" are undefined
+abbrev pub readControls : List ℕ
+readControls = 0x0 ∷ 0x3 ∷ 0x4 ∷ 0x5 ∷ 0x6 ∷ 0x7 ∷ []
+
+abbrev pub writeControls : List ℕ
+writeControls = 0xA ∷ 0xB ∷ 0xE ∷ 0xF ∷ []
+
+abbrev pub undefinedControls : List ℕ
+undefinedControls = 0x1 ∷ 0x2 ∷ 0x8 ∷ 0x9 ∷ 0xC ∷ 0xD ∷ []
+
 -- ---- refused because of the input
 
 -- 1: "kind not 0, 1, 2"
@@ -71,14 +81,19 @@ unlistedRegister w =
     eqb (w .kind) kindWrite && not (among writtenRegisters (w .register))
     || eqb (w .kind) kindRead && not (among readRegisters (w .register))
 
--- 4: "value not listed; MCR control undefined; MCR broadcast with a read control"
+-- "MCR (broadcast bit as on the wire, retries 0 to 7, control)": "MCR control undefined; MCR broadcast with a read
+-- control", the broadcast bit of a broadcast being 0
+abbrev pub unlistedMcr : ℕ → Bool
+unlistedMcr v = among undefinedControls (v % 16) || eqb (v / 128) 0 && among readControls (v % 16)
+
+-- 4: "value not listed", MCR's among them
 abbrev pub unlistedValue : Word → Bool
 unlistedValue w =
     writing w regCtr && not (among (ctrNothing ∷ ctrReset ∷ ctrSetSlre ∷ []) (w .value))
     || writing w regCmr && not (among (cmrRequest ∷ cmrOffer ∷ cmrClearSlre ∷ cmrCopyLock ∷ []) (w .value))
     || writing w regUar1 && not (eqb (w .value / 4 % 4) 0)
     || writing w regSar1 && not (eqb (w .value % 16) 0)
-    || writing w regMcr && not (mcrListed (w .value))
+    || writing w regMcr && unlistedMcr (w .value)
 
 -- ---- refused because of the state
 
@@ -100,7 +115,7 @@ tbfFull s w = writing w regTbf && leb tbfBytes (length (s .tbf))
 -- 8: "CMR 08H with a write control, or 0BH, and TBF under 2 bytes"
 abbrev pub tooFew : State → Word → Bool
 tooFew s w =
-    (commanding w cmrRequest && writesOf (s .core .regs .control) || commanding w cmrOffer)
+    (commanding w cmrRequest && among writeControls (s .core .regs .control) || commanding w cmrOffer)
     && ltb (length (s .tbf)) 2
 
 -- 9: "RBF read when empty"

@@ -47,9 +47,12 @@ unfoldable pub requestRefusal : Registers → Bool → ℕ
 requestRefusal r listed = pick (not listed) refusedValue (pick (r .marq) refusedOutOfTurn 0)
 
 -- "MCR control undefined; MCR broadcast with a read control"
+abbrev pub controlListed : Bool → ℕ → Bool
+controlListed individual control =
+    writesOf control || individual && (eqb control 0 || leb 3 control && leb control 7)
+
 unfoldable pub mcrListed : ℕ → Bool
-mcrListed v =
-    writesOf (v % 16) || leb 0x80 v && (eqb (v % 16) 0 || leb 3 (v % 16) && leb (v % 16) 7)
+mcrListed v = controlListed (leb 0x80 v) (v % 16)
 
 -- "TBF write at 33 bytes"
 unfoldable pub tbfRefusal : ℕ → ℕ

@@ -1,11 +1,14 @@
 -- Whole lists of words, as the stories of `Cases.antt` tell them, and what is looked at after them.
 use mathlib.Core.List.{List, [], _∷_, _++_}
-use Prim.Native.Nat.{ℕ, zero, suc, _+_, _*_, _-_}
+use Prim.Native.Nat.{ℕ, zero, suc, _+_, _*_}
+use lib.ListN.{length}
+use Rattle.line.specs.Cases.{Case, _gives_}
 use Rattle.line.specs.Choice.{bitOf}
-use Rattle.line.specs.Parity as parity
-use Rattle.place.specs.Cases.{field}
+use Rattle.place.specs.Cases.{attemptsOf, field, heard, released, spoilt, times}
+pub use Rattle.place.specs.Cases.{answered}
 use Rattle.isolation.specs.Runs.{run, answers}
 use Rattle.rules.specs.State.{State, reset}
+use Rattle.rules.specs.Registers.{flgByte, rcrByte}
 use Rattle.rules.specs.Machine.{unit}
 
 -- ---- words
@@ -16,14 +19,6 @@ write register value = 0x1000_0000 + register * 0x0100_0000 + value
 
 abbrev pub read : ℕ → ℕ
 read register = 0x2000_0000 + register * 0x0100_0000
-
--- a field with its P and a level in its A slot
-abbrev pub answered : ℕ → ℕ → ℕ → List ℕ
-answered width value a = field width value ++ a ∷ []
-
--- the same with a wrong P
-abbrev pub spoilt : ℕ → ℕ → ℕ → List ℕ
-spoilt width value a = parity.levelsOf width value ++ (1 - parity.parityOf value) ∷ a ∷ []
 
 -- bytes that are all ACKed
 abbrev pub bytes : List ℕ → List ℕ
@@ -40,8 +35,8 @@ exchange master slave control length text =
     header master slave control 0 ++ answered 8 length 0 ++ bytes text ++ 3 ∷ []
 
 -- one that breaks off after a byte of two
-abbrev pub brokenOff : ℕ → ℕ → List ℕ
-brokenOff master control = header master 0x123 control 0 ++ answered 8 2 0 ++ answered 8 0x99 0 ++ 3 ∷ []
+abbrev pub brokenOff : ℕ → ℕ → ℕ → List ℕ
+brokenOff master slave control = header master slave control 0 ++ answered 8 2 0 ++ answered 8 0x99 0 ++ 3 ∷ []
 
 -- a broadcast up to its length: nobody gives an ACK
 abbrev pub toAll : ℕ → ℕ → ℕ → ℕ → List ℕ
@@ -52,19 +47,65 @@ toAll master slave control length =
 abbrev pub setUp : List ℕ
 setUp = write 0x2 0x32 ∷ write 0x3 0x12 ∷ []
 
--- what is seen after some words: MARC, SLRC, MARQ, STRQ, SLRE, whether locked and to whom, RDR1 and RDR2; then the
--- buffers
-abbrev pub seenAfter : State → List ℕ
-seenAfter s =
-    s .core .regs .marc ∷ s .core .regs .slrc ∷ bitOf (s .core .regs .marq) ∷ bitOf (s .core .regs .strq)
-    ∷ bitOf (s .core .regs .slre) ∷ bitOf (s .core .regs .locked) ∷ s .core .regs .holder ∷ s .core .regs .rdr1
-    ∷ s .core .regs .rdr2 ∷ []
+-- ---- what some words leave
 
-abbrev pub story : List ℕ → List ℕ
-story words = seenAfter (run unit reset words) ++ run unit reset words .tbf
+pub record Left : Type 0 where
+  -- RCR and FLG as they are read
+  pub rcr : ℕ
+  pub flg : ℕ
+  -- the lock as LOR shows it: 0 or, locked, 1000H and the holder
+  pub lock : ℕ
+  pub rdr1 : ℕ
+  pub rdr2 : ℕ
+  pub tbf : List ℕ
+  pub rbf : List ℕ
 
-abbrev pub received : List ℕ → List ℕ
-received words = run unit reset words .rbf
+-- "Reset: RCR FFH, .. all else zero or empty"; what differs from it is put in by name
+abbrev pub asReset : Left
+asReset = record { rcr = 0xFF; flg = 0; lock = 0; rdr1 = 0; rdr2 = 0; tbf = []; rbf = [] }
+
+abbrev pub rcr : ℕ → Left → Left
+rcr v l = record { rcr = v; flg = l .flg; lock = l .lock; rdr1 = l .rdr1; rdr2 = l .rdr2; tbf = l .tbf; rbf = l .rbf }
+
+abbrev pub flg : ℕ → Left → Left
+flg v l = record { rcr = l .rcr; flg = v; lock = l .lock; rdr1 = l .rdr1; rdr2 = l .rdr2; tbf = l .tbf; rbf = l .rbf }
+
+abbrev pub lock : ℕ → Left → Left
+lock v l = record { rcr = l .rcr; flg = l .flg; lock = v; rdr1 = l .rdr1; rdr2 = l .rdr2; tbf = l .tbf; rbf = l .rbf }
+
+abbrev pub rdr1 : ℕ → Left → Left
+rdr1 v l = record { rcr = l .rcr; flg = l .flg; lock = l .lock; rdr1 = v; rdr2 = l .rdr2; tbf = l .tbf; rbf = l .rbf }
+
+abbrev pub rdr2 : ℕ → Left → Left
+rdr2 v l = record { rcr = l .rcr; flg = l .flg; lock = l .lock; rdr1 = l .rdr1; rdr2 = v; tbf = l .tbf; rbf = l .rbf }
+
+abbrev pub tbf : List ℕ → Left → Left
+tbf v l = record { rcr = l .rcr; flg = l .flg; lock = l .lock; rdr1 = l .rdr1; rdr2 = l .rdr2; tbf = v; rbf = l .rbf }
+
+abbrev pub rbf : List ℕ → Left → Left
+rbf v l = record { rcr = l .rcr; flg = l .flg; lock = l .lock; rdr1 = l .rdr1; rdr2 = l .rdr2; tbf = l .tbf; rbf = v }
+
+abbrev pub leftIn : State → Left
+leftIn s =
+    record {
+      rcr = rcrByte (s .core .regs);
+      flg = flgByte (s .core .regs);
+      lock = bitOf (s .core .regs .locked) * 0x1000 + s .core .regs .holder;
+      rdr1 = s .core .regs .rdr1;
+      rdr2 = s .core .regs .rdr2;
+      tbf = s .tbf;
+      rbf = s .rbf;
+    }
+
+-- all of it as numbers; with the count of TBF no two are the same
+abbrev pub numbers : Left → List ℕ
+numbers l =
+    l .rcr ∷ l .flg ∷ l .lock ∷ l .rdr1 ∷ l .rdr2 ∷ length (l .tbf) ∷ l .tbf ++ l .rbf
+
+-- what the unit has after some words from reset on
+infix 4 _leaves_
+abbrev pub _leaves_ : List ℕ → Left → Case
+_leaves_ words left = numbers (leftIn (run unit reset words)) gives numbers left
 
 -- ---- answers
 
@@ -92,15 +133,6 @@ wrote [] = []
 wrote (zero ∷ ns) = 0x9000_0100 ∷ wrote ns
 wrote (suc n ∷ ns) = (0xF000_0001 + n) ∷ wrote ns
 
--- so many slots in which the line is released
-abbrev pub released : ℕ → List ℕ
-released zero = []
-released (suc n) = 1 ∷ released n
-
--- what is driven in a field of another's: nothing, and a level in its A slot
-abbrev pub heard : ℕ → ℕ → List ℕ
-heard width a = released width ++ 1 ∷ a ∷ []
-
 -- what the slave 123H drives after the start slot: an ACK of its address, the rest, and nothing more
 abbrev pub asSlave : List ℕ → List ℕ
 asSlave rest = released 14 ++ heard 12 0 ++ rest ++ released 2
@@ -125,16 +157,19 @@ abbrev pub to456 : ℕ → List ℕ
 to456 mcr = write 0x4 0x60 ∷ write 0x5 0x45 ∷ write 0x6 mcr ∷ []
 
 -- a master write of two bytes to 456H
+abbrev pub asksFor456 : ℕ → List ℕ
+asksFor456 mcr = to456 mcr ++ write 0xE 2 ∷ write 0xE 0xAA ∷ write 0xE 0xBB ∷ write 0x1 0x08 ∷ []
+
 abbrev pub asksToWrite : ℕ → List ℕ
-asksToWrite mcr =
-    setUp ++ to456 mcr ++ write 0xE 2 ∷ write 0xE 0xAA ∷ write 0xE 0xBB ∷ write 0x1 0x08 ∷ []
+asksToWrite mcr = setUp ++ asksFor456 mcr
 
 abbrev pub masterWrite : List ℕ
 masterWrite = asksToWrite 0x8F ++ 3 ∷ exchange 0x123 0x456 0xF 2 (0xAA ∷ 0xBB ∷ [])
 
--- a master read of one byte from 456H, with 3H; the two bytes in TBF stay there
+-- a master read of one byte from 456H, with 3H, SAR1 being written last; the two bytes in TBF stay there
 abbrev pub asksToRead : List ℕ
-asksToRead = setUp ++ to456 0x83 ++ write 0xE 2 ∷ write 0xE 0xAA ∷ write 0x1 0x08 ∷ []
+asksToRead =
+    setUp ++ write 0x5 0x45 ∷ write 0x4 0x60 ∷ write 0x6 0x83 ∷ write 0xE 2 ∷ write 0xE 0xAA ∷ write 0x1 0x08 ∷ []
 
 abbrev pub masterRead : List ℕ
 masterRead = asksToRead ++ 3 ∷ exchange 0x123 0x456 0x3 1 (0x77 ∷ [])
@@ -154,9 +189,12 @@ ranEmpty = wanted ++ answered 8 0x11 0 ++ 3 ∷ []
 abbrev pub lengthNak : List ℕ
 lengthNak = offered ++ header 0x525 0x123 0x3 0 ++ answered 8 3 1 ++ 3 ∷ []
 
--- BH cut after one byte of two, then read out and completed
+-- BH cut after one byte of two, of any master and of 525H; then read out and completed
+abbrev pub heldBy : ℕ → List ℕ
+heldBy master = setUp ++ write 0x0 0x10 ∷ 3 ∷ brokenOff master 0x123 0xB
+
 abbrev pub lockTaken : List ℕ
-lockTaken = setUp ++ write 0x0 0x10 ∷ 3 ∷ brokenOff 0x525 0xB
+lockTaken = heldBy 0x525
 
 abbrev pub readOut : List ℕ
 readOut = read 0xE ∷ read 0xE ∷ read 0xE ∷ read 0xE ∷ write 0x0 0x10 ∷ []
@@ -186,8 +224,7 @@ lastLoss = contender 0x8F ++ 3 ∷ exchange 0x023 0x123 0xF 1 (0x42 ∷ [])
 
 -- "After the first attempt and MCR's retries all lost, the request is aborted"; the next one has its own retries
 abbrev pub lost : ℕ → List ℕ
-lost zero = []
-lost (suc n) = 2 ∷ 1 ∷ field 12 0x023 ++ lost n
+lost n = times n (2 ∷ 1 ∷ field 12 0x023)
 
 abbrev pub lostTwice : List ℕ
 lostTwice = loss ++ lost 1
@@ -206,11 +243,11 @@ again byte = read 0xE ∷ readOut ++ exchange 0x525 0x123 0xF 2 (byte ∷ 0x5B �
 abbrev pub thirdFrame : List ℕ
 thirdFrame = reception ++ again 0xA6 ++ again 0xA7
 
--- "0FH clear SLRE, a reception whose control was accepted going on"
+-- "0FH clear SLRE, a reception whose control was accepted going on"; its end clears SLRE, which 10H set meanwhile
 abbrev pub cleared : List ℕ
 cleared =
     setUp ++ write 0x0 0x10 ∷ 2 ∷ 1 ∷ field 12 0x525 ++ answered 12 0x123 0 ++ field 4 0xF ++ write 0x1 0x0F ∷ 0
-    ∷ answered 8 1 0 ++ answered 8 0x42 0
+    ∷ answered 8 1 0 ++ write 0x0 0x10 ∷ answered 8 0x42 0
 
 -- "length 00H means 256": one byte is not all of it
 abbrev pub length256 : List ℕ
@@ -232,12 +269,14 @@ abbrev pub masterWants : List ℕ
 masterWants = masterStarts 0x8F ++ answered 12 0x456 0 ++ answered 4 0xF 0 ++ answered 8 2 0
 
 -- "At most 16 attempts": of 17 bytes 16 are stored, and BH has not all ACKed
-abbrev pub acked : ℕ → List ℕ
-acked zero = []
-acked (suc n) = answered 8 0x35 0 ++ acked n
-
 abbrev pub tooLong : List ℕ
-tooLong = setUp ++ write 0x0 0x10 ∷ header 0x525 0x123 0xB 0 ++ answered 8 17 0 ++ acked 16
+tooLong = setUp ++ write 0x0 0x10 ∷ header 0x525 0x123 0xB 0 ++ answered 8 17 0 ++ attemptsOf 16
+
+-- a master, in the mode that UAR1 gives, whose first byte gets NAK 16 times before both are taken
+abbrev pub triesOn : ℕ → List ℕ
+triesOn uar1 =
+    setUp ++ write 0x2 uar1 ∷ asksFor456 0x8F ++ header 0x123 0x456 0xF 0 ++ answered 8 2 0 ++ times 16
+    (answered 8 0xAA 1) ++ bytes (0xAA ∷ 0xBB ∷ [])
 
 -- ---- the lock
 
@@ -248,11 +287,11 @@ outlasted =
     (0x97 ∷ [])
 
 abbrev pub outlastedBroken : List ℕ
-outlastedBroken = lockTaken ++ readOut ++ brokenOff 0x525 0xE ++ readOut ++ brokenOff 0x525 0xF
+outlastedBroken = lockTaken ++ readOut ++ brokenOff 0x525 0x123 0xE ++ readOut ++ brokenOff 0x525 0x123 0xF
 
 -- and an EH or FH that breaks off takes none
 abbrev pub noneTaken : List ℕ
-noneTaken = setUp ++ write 0x0 0x10 ∷ brokenOff 0x525 0xE ++ readOut ++ brokenOff 0x525 0xF
+noneTaken = setUp ++ write 0x0 0x10 ∷ brokenOff 0x525 0x123 0xE ++ readOut ++ brokenOff 0x525 0x123 0xF
 
 -- 7H that breaks off takes none either, and 6H whose byte is not ACKed ends none
 abbrev pub ranEmpty7 : List ℕ
@@ -263,13 +302,13 @@ unheard6 = lockTaken ++ header 0x525 0x123 0x6 0 ++ answered 8 1 0 ++ answered 8
 
 -- ended by the holder, it is taken by AH of another master
 abbrev pub takenAnew : List ℕ
-takenAnew = lockCompleted ++ readOut ++ brokenOff 0x111 0xA
+takenAnew = lockCompleted ++ readOut ++ brokenOff 0x111 0x123 0xA
 
 -- ---- what is driven
 
 -- a byte with a wrong P, which comes again
 abbrev pub comesAgain : List ℕ
-comesAgain = header 0x525 0x123 0xF 0 ++ answered 8 1 0 ++ spoilt 8 0x42 1 ++ answered 8 0x42 0 ++ 3 ∷ []
+comesAgain = header 0x525 0x123 0xF 0 ++ answered 8 1 0 ++ spoilt 8 0x42 ++ 1 ∷ answered 8 0x42 0 ++ 3 ∷ []
 
 -- an offer of two bytes, and their way to a master that gives NAK to the first at its first attempt
 abbrev pub twoOffered : List ℕ
@@ -285,8 +324,7 @@ abbrev pub statusAsked : List ℕ
 statusAsked = answered 12 0x123 0 ++ answered 4 0x0 0 ++ answered 8 1 0
 
 abbrev pub unheard : ℕ → List ℕ
-unheard zero = []
-unheard (suc n) = answered 8 0x90 1 ++ unheard n
+unheard n = times n (answered 8 0x90 1)
 
 -- a frame's start and its master, before a slave is named
 abbrev pub from525 : List ℕ
@@ -308,8 +346,7 @@ turnedDown =
 
 -- so many bytes for TBF
 abbrev pub filled : ℕ → List ℕ
-filled zero = []
-filled (suc n) = write 0xE 0x55 ∷ filled n
+filled n = times n (write 0xE 0x55 ∷ [])
 
 -- MCR with every control, the highest first, behind a broadcast bit and retries
 abbrev pub controlsIn : ℕ → ℕ → List ℕ
