@@ -2,6 +2,7 @@
 // function has a `requires`, and nothing is assumed.
 ghost use Rattle.contenders.specs.Contest.{ContestedWord, WonByWord, contendersOf};
 ghost use Rattle.lists.specs.Bytes.{CalledBytes};
+ghost use Rattle.rules.specs.State.{reset};
 ghost use Rattle.lasting.specs.Calls.{Ran, Reset};
 use contenders::Contender;
 use contenders::Contenders;
@@ -37,7 +38,7 @@ pub extern "C" fn iebus_contest(records: &[Contender], lost: &mut [u32]) -> u32
 // little-endian; it returns 0 or a refusal."
 #[no_mangle]
 pub extern "C" fn iebus_run(words: &[u8], answers: &mut [u8]) -> u32
-    ensures { λ r. ⌜ CalledBytes (now (words .entry)) (now (answers .entry)) r (now (answers .exit)) ⌝ }
+    ensures { λ r. ⌜ CalledBytes reset (now (words .entry)) (now (answers .entry)) r (now (answers .exit)) ⌝ }
 {
     let ran = run_bytes(Unit::reset(), words, answers);
     ran.number

@@ -141,7 +141,7 @@ pieces-are-one calls call =
 
 -- from a reset unit the answers are those of `iebus_run`
 pub pieces-from-reset : {before kept words said kept′ out out′ : List ℕ} → Reset before 0 kept
-    → Fed kept words said kept′ → CalledBytes words out 0 out′ → said ≡ take (length words) out′
+    → Fed kept words said kept′ → CalledBytes reset words out 0 out′ → said ≡ take (length words) out′
 unfolding resetState bytesAfter
 pieces-from-reset {before} {kept} {words} {said} {kept′} {out} {out′} begun calls call =
     let many = as-one-run calls in

@@ -7,6 +7,8 @@ use Rattle.isolation.specs.Runs.{run, answers}
 use Rattle.rules.specs.Machine.{unit}
 use Rattle.rules.specs.State.{State}
 use Rattle.lists.specs.Bytes.{byteRefusal, bytesAfter, bytesOf, stateAfter, wordsOf}
+use Rattle.lists.specs.Rulings.{AllRuled}
+use Rattle.lists.proofs.Rulings.{spelled-ruled}
 use Rattle.lasting.specs.Layout.{stateBytes}
 use Rattle.lasting.specs.Calls.{Keeps, runAnswers, runBytes, runRefusal, runState, sizeRefusal}
 use Rattle.lasting.specs.Decode.{decode}
@@ -35,6 +37,7 @@ pub record Promised (bytes words out bytes′ out′ : List ℕ) : Type 0 where
   pub written : out′ ≡ runAnswers bytes words out
   pub left : bytes′ ≡ runBytes bytes words out
   pub again : decode bytes′ ≡ runState bytes words out
+  pub ruled : AllRuled (decode bytes) (wordsOf words) (wordsOf out′)
 
 pub promised : (bytes words out bytes′ out′ : List ℕ) (s t : State) → byteRefusal words out ≡ 0
     → length bytes ≡ stateBytes → s ≡ decode bytes → t ≡ stateAfter s words out → out′ ≡ bytesAfter s words out
@@ -42,10 +45,12 @@ pub promised : (bytes words out bytes′ out′ : List ℕ) (s t : State) → by
 unfolding runAnswers runBytes runState
 promised bytes words out bytes′ out′ s t none size from after written keeps =
     let zero : runRefusal bytes words out ≡ 0 = not-refused bytes words out none size in
+    let said = written ∙ ran-bytes s (decode bytes) words out none from in
     let left : t ≡ run unit (decode bytes) (wordsOf words) = after ∙ ran-state s (decode bytes) words out none from in
     record {
       number = zero;
-      written = written ∙ ran-bytes s (decode bytes) words out none from ∙ rw zero;
+      written = said ∙ rw zero;
       left = keeps .spelled ∙ ap encode left ∙ rw zero;
       again = keeps .again ∙ left ∙ rw zero;
+      ruled = spelled-ruled (decode bytes) (wordsOf words) (drop (length words) out) out′ said;
     }

@@ -9,6 +9,7 @@ use Rattle.isolation.specs.Runs.{Protected, run, answers}
 use Rattle.rules.specs.Machine.{unit}
 use Rattle.rules.specs.State.{State, reset}
 use Rattle.lists.specs.Bytes.{byteRefusal, bytesOf, wordsOf}
+use Rattle.lists.specs.Rulings.{AllRuled}
 use Rattle.lasting.specs.Layout.{stateBytes}
 use Rattle.lasting.specs.Encode.{encode}
 use Rattle.lasting.specs.Decode.{decode}
@@ -63,10 +64,12 @@ pub record Reset (kept : List ℕ) (number : ℕ) (kept′ : List ℕ) : Type 0 
   pub left : kept′ ≡ resetBytes kept
   pub again : decode kept′ ≡ resetState kept
 
--- `iebus_unit_run` on the bytes `kept` and the answer bytes `out`, and what it leaves of both; the last is demand 3
+-- `iebus_unit_run` on the bytes `kept` and the answer bytes `out`, and what it leaves of both; the last two are demands 1
+-- and 3
 pub record Ran (kept words out : List ℕ) (number : ℕ) (kept′ out′ : List ℕ) : Type 0 where
   pub ends : number ≡ runRefusal kept words out
   pub written : out′ ≡ runAnswers kept words out
   pub left : kept′ ≡ runBytes kept words out
   pub again : decode kept′ ≡ runState kept words out
+  pub ruled : number ≡ 0 → AllRuled (decode kept) (wordsOf words) (wordsOf out′)
   pub protected : Protected unit

@@ -3,7 +3,7 @@ ghost use mathlib.Core.Path.{_≡_};
 ghost use Prim.Native.Nat.{_+_, _<_, _≤_};
 ghost use lib.ListN.{length};
 ghost use Rattle.unit.specs.Both.{stateOf};
-ghost use Rattle.lists.specs.Bytes.{byteRefusal, bytesAfter, stateAfter};
+ghost use Rattle.lists.specs.Bytes.{CalledBytes, byteRefusal, stateAfter};
 ghost use Rattle.list_run.specs.Run.{RunsSpelled};
 ghost use Rattle.list_run.specs.Run.{wordAt, wordPut};
 ghost use Rattle.list_run.specs.Run.{Whole};
@@ -85,11 +85,12 @@ fn run_spelled(
 
 // The words run from the unit given. The answer to the word at byte at stands at byte at of `answers`; bytes past the
 // last answer keep their contents. The number is 0, or 11 where the bytes are no whole words, or 12 where `answers` is
-// shorter than `words`; then nothing is run and nothing written.
+// shorter than `words`; then nothing is run and nothing written. Each word is ruled as the tables of refusals say, and
+// the holder of the lock is protected from everybody else's frames.
 pub fn run_bytes(from: Unit, words: &[u8], answers: &mut [u8]) -> RanBytes
-    ensures { λ r. ⌜ r .number ≡ byteRefusal (now (words .entry)) (now (answers .entry)) ⌝ }
-    ensures { λ r. ⌜ stateOf (r .unit) ≡ stateAfter (stateOf from) (now (words .entry)) (now (answers .entry)) ⌝ }
-    ensures { λ _. ⌜ now (answers .exit) ≡ bytesAfter (stateOf from) (now (words .entry)) (now (answers .entry)) ⌝ }
+    ensures called { λ r. ⌜ CalledBytes (stateOf from) (now (words .entry)) (now (answers .entry)) (r .number)
+        (now (answers .exit)) ⌝ }
+    ensures left { λ r. ⌜ stateOf (r .unit) ≡ stateAfter (stateOf from) (now (words .entry)) (now (answers .entry)) ⌝ }
 {
     let number = byte_refusal(words.len(), answers.len());
     if number != 0 {

@@ -75,8 +75,9 @@ pub(crate) fn unit_of(lent: Lent, sent: [u8; TBF_BYTES], stored: [u8; RBF_BYTES]
 }
 
 // The words run from the unit given. The answer to words[i] stands at answers[i]; places past the last answer keep
-// their contents. Where the answer list is shorter than the word list, nothing is run and nothing written. The holder
-// of the lock is protected from everybody else's frames, in the unit that is left and in the answers.
+// their contents. Where the answer list is shorter than the word list, nothing is run and nothing written. Each word is
+// ruled as the tables of refusals say, a refused one with the unit unchanged. The holder of the lock is protected from
+// everybody else's frames, in the unit that is left and in the answers.
 pub fn run(from: Unit, words: &[u32], answers: &mut [u32]) -> Finished
     ensures { λ r. ⌜ Called (stateOf from) (now (words .entry)) (now (answers .entry)) (numberOf (r .outcome))
         (stateOf (r .unit)) (now (answers .exit)) ⌝ }

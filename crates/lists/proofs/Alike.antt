@@ -93,7 +93,7 @@ module _ {h : ℕ} {s : State} {A B : List ℕ} (given : Given unit h s A B) whe
 
 pub exports-alike : {h : ℕ} {words words′ first first′ second second′ : List ℕ} (P A B : List ℕ)
     → wordsOf words ≡ P ++ A → wordsOf words′ ≡ P ++ B → Given unit h (run unit reset P) A B
-    → CalledBytes words first 0 first′ → CalledBytes words′ second 0 second′
+    → CalledBytes reset words first 0 first′ → CalledBytes reset words′ second 0 second′
     → AlikeIn h (run unit reset P) A B (drop (length P) (wordsOf first′)) (drop (length P) (wordsOf second′))
 exports-alike {h} P A B e e′ given one two =
     answers-alike (one .protected) h (run unit reset P) A B _ _ given (answers-later P A one e)

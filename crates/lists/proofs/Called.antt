@@ -61,7 +61,7 @@ answers-spelled s (w ∷ ws) rest =
     rw (spelled-again (wordOf (answerOf s w)) (answer-fits (answerOf s w)), answers-spelled (stepOf s w) ws rest)
 
 -- of a list in two parts, the answers to the second stand behind those to the first
-pub answers-later : {words before after : List ℕ} (P A : List ℕ) → CalledBytes words before 0 after
+pub answers-later : {words before after : List ℕ} (P A : List ℕ) → CalledBytes reset words before 0 after
     → wordsOf words ≡ P ++ A
     → take (length A) (drop (length P) (wordsOf after)) ≡ answers unit (run unit reset P) A
 unfolding bytesAfter

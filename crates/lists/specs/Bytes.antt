@@ -9,7 +9,8 @@ use Rattle.line.specs.Choice.{pick}
 use Rattle.line.specs.Numbers.{refusedByteCount, refusedShortList}
 use Rattle.isolation.specs.Runs.{Protected, run, answers}
 use Rattle.rules.specs.Machine.{unit}
-use Rattle.rules.specs.State.{State, reset}
+use Rattle.rules.specs.State.{State}
+use Rattle.lists.specs.Rulings.{AllRuled}
 
 -- a word from its bytes, the lowest first
 abbrev pub wordFrom : ℕ → ℕ → ℕ → ℕ → ℕ
@@ -48,8 +49,10 @@ unfoldable pub bytesAfter : State → List ℕ → List ℕ → List ℕ
 bytesAfter s words out =
     pick (eqb (byteRefusal words out) 0) (bytesOf (answers unit s (wordsOf words)) ++ drop (length words) out) out
 
--- what a call of `iebus_run` promises, which returns a number and leaves the answer bytes `after`; the last is demand 3
-pub record CalledBytes (words before : List ℕ) (number : ℕ) (after : List ℕ) : Type 0 where
+-- what a run over bytes from the state s promises, which returns a number and leaves the answer bytes `after`: that of
+-- `run_bytes`, and of `iebus_run` from a reset unit; the last two are demands 1 and 3
+pub record CalledBytes (s : State) (words before : List ℕ) (number : ℕ) (after : List ℕ) : Type 0 where
   pub ends : number ≡ byteRefusal words before
-  pub written : after ≡ bytesAfter reset words before
+  pub written : after ≡ bytesAfter s words before
+  pub ruled : number ≡ 0 → AllRuled s (wordsOf words) (wordsOf after)
   pub protected : Protected unit

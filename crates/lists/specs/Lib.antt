@@ -1,4 +1,6 @@
--- The definitions that a reader has to believe: the list run, then the same over bytes; and computed cases.
+-- The definitions that a reader has to believe: demand 1 for a list, the list run, the same over bytes; and computed
+-- cases.
+pub mod Rulings
 pub mod Run
 pub mod Bytes
 pub mod Cases

@@ -1,7 +1,4 @@
 use borrow.Author.Needs.{needs}
-use mathlib.Core.Path.{_∙_}
-use Rattle.rules.proofs.Protects.{holds}
-use Rattle.list_run.proofs.Spelled.{same-answers}
 use Rattle.exports.proofs.iebus_run.Statement.{statement}
 use Rattle.exports.proofs.iebus_run.Tie as tie
 
@@ -13,9 +10,4 @@ iebus-run-spec =
     (λ c κs. search needs)
     (λ c. search needs)
     (λ c. let at = c .before .before in
-    let ran = at .run-bytes .ensures in
-    record {
-      ends = ran .0;
-      written = ran .1 .1 ∙ same-answers _ _ _ _ (at .before .before .reset .ensures);
-      protected = holds;
-    }))
+    rw (at .before .before .reset .ensures) at (at .run-bytes .ensures .0)))

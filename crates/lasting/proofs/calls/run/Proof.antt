@@ -1,3 +1,4 @@
+use native.Mathlib.Omega.{arith}
 use borrow.Author.Needs.{needs}
 use borrow.Author.Tests.{eq-eqb, ne-eqb}
 use mathlib.Core.Path.{sym, _∙_}
@@ -20,6 +21,7 @@ run-spec =
       written = simp (← number, some);
       left = simp (← number, some);
       again = simp (← number, some);
+      ruled = λ none. absurd (c .if1 .taken none);
       protected = holds;
     })
     (λ c. let number = c .before .before .byte-refusal .ensures in
@@ -30,6 +32,7 @@ run-spec =
       written = simp (← number, none, wrong);
       left = simp (← number, none, wrong);
       again = simp (← number, none, wrong);
+      ruled = λ zero. absurd (let b : ⊥ = omega (arith, zero) in b);
       protected = holds;
     })
     (λ c κs. search needs)
@@ -42,12 +45,13 @@ run-spec =
     let sized = at .before .before .before .before in
     let listed = sized .before in
     let all = promised _ _ _ _ _ _ _ (sym (listed .before .byte-refusal .ensures) ∙ listed .if1 .left)
-    (sized .if2 .left) (at .before .before .unit-from .ensures) (ran .1 .0) (ran .1 .1)
+    (sized .if2 .left) (at .before .before .unit-from .ensures) (ran .1) (ran .0 .written)
     (c .before .before .put-unit .ensures) in
     record {
       ends = sym (all .number);
       written = all .written;
       left = all .left;
       again = all .again;
+      ruled = λ _. all .ruled;
       protected = holds;
     }))

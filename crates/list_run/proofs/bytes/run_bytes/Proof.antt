@@ -1,7 +1,9 @@
 use borrow.Author.Needs.{needs}
 use borrow.Author.Tests.{eq-eqb, ne-eqb}
 use mathlib.Core.Path.{_∙_}
+use Rattle.rules.proofs.Protects.{holds}
 use Rattle.lists.specs.Bytes.{bytesAfter, stateAfter}
+use Rattle.lists.proofs.Rulings.{spelled-ruled}
 use Rattle.list_run.proofs.bytes.run_bytes.Statement.{statement}
 use Rattle.list_run.proofs.bytes.run_bytes.Tie as tie
 
@@ -12,8 +14,15 @@ run-bytes-spec =
     (tie.spec
     (λ c κs. search needs)
     (λ c. let number = c .before .byte-refusal .ensures in
-    let some = ne-eqb _ _ (c .if1 .taken) in
-    (number, (simp (← number, some), simp (← number, some))))
+    let some = ne-eqb _ _ (c .if1 .taken) in (
+      record {
+        ends = number;
+        written = simp (← number, some);
+        ruled = λ none. absurd (c .if1 .taken none);
+        protected = holds;
+      },
+      simp (← number, some),
+    ))
     (λ c κs. search needs)
     (λ c κs. search needs)
     (λ c. search needs)
@@ -21,5 +30,12 @@ run-bytes-spec =
     let ran = at .run-spelled .ensures in
     let asked = at .before .before .before .before .before .before .before .before .before .before .before in
     let number = asked .before .byte-refusal .ensures in
-    let none = eq-eqb _ _ (asked .if1 .left) in
-    (number, (c .unit-of .ensures ∙ ran .state ∙ simp (← number, none), ran .written ∙ simp (← number, none)))))
+    let none = eq-eqb _ _ (asked .if1 .left) in (
+      record {
+        ends = number;
+        written = ran .written ∙ simp (← number, none);
+        ruled = λ _. spelled-ruled _ _ _ _ (ran .written);
+        protected = holds;
+      },
+      c .unit-of .ensures ∙ ran .state ∙ simp (← number, none),
+    )))

@@ -1,8 +1,10 @@
+use native.Mathlib.Omega.{arith}
 use borrow.Author.Needs.{needs}
 use borrow.Author.Tests.{lt-ltb, le-ltb}
 use mathlib.Core.Path.{_∙_}
 use Rattle.rules.proofs.Protects.{holds}
 use Rattle.lists.specs.Run.{answersAfter, listRefusal, unitAfter}
+use Rattle.lists.proofs.Rulings.{listed-ruled}
 use Rattle.list_run.specs.Run.{numberOf}
 use Rattle.list_run.proofs.run.run.Statement.{statement}
 use Rattle.list_run.proofs.run.run.Tie as tie
@@ -13,7 +15,13 @@ run-spec =
     tie.close
     (tie.spec
     (λ c. let short = lt-ltb _ _ (c .if1 .taken) in
-    record { ends = simp short; left = simp short; written = simp short; protected = holds })
+    record {
+      ends = simp short;
+      left = simp short;
+      written = simp short;
+      ruled = λ zero. absurd (let b : ⊥ = omega (arith, zero) in b);
+      protected = holds;
+    })
     (λ c κs. search needs)
     (λ c κs. search needs)
     (λ c. search needs)
@@ -25,5 +33,6 @@ run-spec =
       ends = simp room;
       left = c .unit-of .ensures ∙ ran .state ∙ simp room;
       written = ran .written ∙ simp room;
+      ruled = λ _. listed-ruled _ _ _ _ (ran .written);
       protected = holds;
     }))
