@@ -3,7 +3,7 @@
 ghost use Rattle.contenders.specs.Contest.{ContestedWord, WonByWord, contendersOf};
 ghost use Rattle.lists.specs.Bytes.{CalledBytes};
 ghost use Rattle.rules.specs.State.{reset};
-ghost use Rattle.lasting.specs.Calls.{Ran, Reset};
+ghost use Rattle.keeping.specs.Calls.{Ran, Reset};
 use contenders::Contender;
 use contenders::Contenders;
 use list_run::bytes::run_bytes;

@@ -10,9 +10,9 @@ use Rattle.rules.specs.Machine.{unit}
 use Rattle.rules.specs.State.{State, reset}
 use Rattle.lists.specs.Bytes.{byteRefusal, bytesOf, wordsOf}
 use Rattle.lists.specs.Rulings.{AllRuled}
-use Rattle.lasting.specs.Layout.{stateBytes}
-use Rattle.lasting.specs.Encode.{encode}
-use Rattle.lasting.specs.Decode.{decode}
+use Rattle.keeping.specs.Layout.{stateBytes}
+use Rattle.keeping.specs.Encode.{encode}
+use Rattle.keeping.specs.Decode.{decode}
 
 -- the bytes given for a state are too few or too many: a number of this library's own, outside document 01's
 abbrev pub refusedStateSize : ℕ

@@ -2,7 +2,7 @@
 -- room as full, and of a flag's byte the lowest bit is the flag.
 use mathlib.Core.Bool.{Bool}
 use mathlib.Core.List.{List}
-use Prim.Native.Nat.{ℕ, _+_, _*_, _%_}
+use Prim.Native.Nat.{ℕ, _+_, _*_, _%_, min}
 use lib.Dec.{eqb}
 use lib.ListN.{drop, getD, take}
 use Rattle.line.specs.Choice.{pick}
@@ -11,10 +11,9 @@ use Rattle.place.specs.declared.Field.the-variants.{Broadcast, Master, Slave, C
 use Rattle.place.specs.declared.Frame.{Frame}
 use Rattle.place.specs.declared.Place.{Place}
 use Rattle.place.specs.declared.Place.the-variants.{Waiting, In}
-use Rattle.unit.specs.Queue.{heldOf}
 use Rattle.rules.specs.State.{State}
 use Rattle.rules.specs.declared.state.Registers.{Registers}
-use Rattle.lasting.specs.Layout.{frameEnd, idlePlace, part, registersEnd, stateBytes, tbfEnd}
+use Rattle.keeping.specs.Layout.{frameEnd, idlePlace, part, registersEnd, stateBytes, tbfEnd}
 
 -- what stands at a place: a byte, a number of two bytes, a flag
 abbrev pub byteIn : List ℕ → ℕ → ℕ
@@ -86,7 +85,7 @@ frameIn l =
     }
 
 unfoldable pub bufferIn : ℕ → List ℕ → List ℕ
-bufferIn room l = take (heldOf room (byteIn l 0)) (drop 1 l)
+bufferIn room l = take (min room (byteIn l 0)) (drop 1 l)
 
 unfoldable pub decode : List ℕ → State
 decode l =

@@ -15,14 +15,13 @@ use Rattle.rules.specs.Machine.{observed, unit}
 use Rattle.rules.specs.State.{State, reset}
 use Rattle.lists.specs.Bytes.{CalledBytes, byteRefusal, bytesAfter, bytesOf, bytesOfWord, wordFrom, wordsOf}
 use Rattle.lists.proofs.Alike.{AlikeIn, answers-alike}
-use Rattle.lists.proofs.Called.{answers-length, answers-spelled}
-use Rattle.list_run.proofs.Spelled.{taken-whole}
-use Rattle.lasting.specs.Calls.{Ran, Reset, resetState, runAnswers, runBytes, runRefusal}
-use Rattle.lasting.specs.Calls.{runState, sizeRefusal}
-use Rattle.lasting.specs.Decode.{decode}
-use Rattle.lasting.specs.Encode.{encode}
-use Rattle.lasting.specs.Layout.{stateBytes}
-use Rattle.lasting.proofs.Again.{same-size}
+use Rattle.lists.proofs.Called.{answers-length, answers-spelled, taken-whole}
+use Rattle.keeping.specs.Calls.{Ran, Reset, resetState, runAnswers, runBytes, runRefusal}
+use Rattle.keeping.specs.Calls.{runState, sizeRefusal}
+use Rattle.keeping.specs.Decode.{decode}
+use Rattle.keeping.specs.Encode.{encode}
+use Rattle.keeping.specs.Layout.{stateBytes}
+use Rattle.keeping.proofs.Again.{same-size}
 
 -- calls one after the other, none refused, each on the bytes that the last one left: the words of all of them as one
 -- list, and their answers

@@ -1,11 +1,10 @@
 -- A state from the bytes that keep it: decoding an encoding gives the state back.
 use mathlib.Core.Bool.{Bool, true, false}
 use mathlib.Core.Path.{_≡_, refl, ap, _∙_}
-use mathlib.Core.List.{List, [], _∷_, _++_, append-assoc, append-nil}
-use Prim.Native.Nat.{ℕ, zero, suc, _≤_, _<_}
+use mathlib.Core.List.{List, [], _∷_, _++_}
+use Prim.Native.Nat.{ℕ, zero, suc, _+_, _-_, _≤_, _<_, min}
 use native.Mathlib.Omega.{arith}
-use borrow.Rule.Slice.PartMut.{putMid}
-use lib.ListN.{length, take, drop, getD, drop-of-length-le, length-append, length-drop}
+use lib.ListN.{length, take, drop, getD, replicate, length-append, length-replicate}
 use lib.Seq.{take-all, take-at, drop-at}
 use Rattle.line.specs.Choice.{bitOf}
 use Rattle.line.specs.Numbers.{rbfBytes, tbfBytes}
@@ -13,15 +12,12 @@ use Rattle.place.specs.declared.Field.the-variants.{Broadcast, Master, Slave, C
 use Rattle.place.specs.declared.Frame.{Frame}
 use Rattle.place.specs.declared.Place.{Place}
 use Rattle.place.specs.declared.Place.the-variants.{Waiting, In}
-use Rattle.unit.specs.Queue.{heldOf}
 use Rattle.rules.specs.State.{State}
 use Rattle.rules.specs.declared.state.Registers.{Registers}
-use Rattle.lasting.specs.Calls.{Keeps}
-use Rattle.lasting.specs.Layout.{frameEnd, idlePlace, part, registersEnd, stateBytes, tbfEnd}
-use Rattle.lasting.specs.Encode.{Fits, FrameFits, RegistersFit, bufferBytes, encode, frameBytes, high, low}
-use Rattle.lasting.specs.Encode.{placeCount, placeNumber, registerBytes}
-use Rattle.lasting.specs.Decode.{bufferIn, decode, flagOf, frameIn, joined, placeOf, registersIn}
-use Rattle.lasting.proofs.Parts.{buffer-length, held-most, held-same, placed}
+use Rattle.keeping.specs.Layout.{frameEnd, idlePlace, part, registersEnd, stateBytes, tbfEnd}
+use Rattle.keeping.specs.Encode.{Fits, FrameFits, RegistersFit, bufferBytes, encode, frameBytes, high, low}
+use Rattle.keeping.specs.Encode.{placeCount, placeNumber, registerBytes}
+use Rattle.keeping.specs.Decode.{bufferIn, decode, flagOf, frameIn, joined, placeOf, registersIn}
 
 pair-again : (n : ℕ) → n < 0x1_0000 → joined (low n) (high n) ≡ n
 pair-again n h = omega arith
@@ -75,7 +71,12 @@ frame-again f idle h =
 
 buffer-again : (room : ℕ) (l : List ℕ) → length l ≤ room → bufferIn room (bufferBytes room l) ≡ l
 unfolding bufferIn bufferBytes
-buffer-again room l h = rw (held-same room (length l) h) (take-at l _ (length l) refl)
+buffer-again room l h = let all : min room (length l) ≡ length l = omega arith in rw all (take-at l _ (length l) refl)
+
+pub buffer-length : (room : ℕ) (l : List ℕ) → length l ≤ room → length (bufferBytes room l) ≡ room + 1
+unfolding bufferBytes
+buffer-length room l h =
+    omega (arith, length-append l (replicate (room - length l) 0), length-replicate {A = ℕ} (room - length l) 0)
 
 -- ---- the parts of an encoding
 
@@ -138,7 +139,7 @@ take-most (suc k) (x ∷ l) = omega (arith, take-most k l)
 buffer-most : (room : ℕ) (l : List ℕ) → length (bufferIn room l) ≤ room
 unfolding bufferIn
 buffer-most room l =
-    omega (arith, take-most (heldOf room (getD l 0 0)) (drop 1 l), held-most room (getD l 0 0))
+    omega (arith, take-most (min room (getD l 0 0)) (drop 1 l))
 
 encode-length : (s : State) → length (s .tbf) ≤ tbfBytes → length (s .rbf) ≤ rbfBytes → length (encode s) ≡ stateBytes
 unfolding encode registerBytes frameBytes
@@ -157,44 +158,3 @@ same-size l e =
     ap length e
     ∙ encode-length (decode l) (buffer-most tbfBytes (part frameEnd tbfEnd l))
     (buffer-most rbfBytes (part tbfEnd stateBytes l))
-
--- ---- the parts, lent and given back one after the other
-
-put-parts : (t R F T B : List ℕ) → length t ≡ stateBytes → length R ≡ 22 → length F ≡ 22 → length T ≡ 34
-    → length B ≡ 41
-    → putMid 78 41 (putMid 44 34 (putMid 22 22 (R ++ drop 22 t) F) T) B ≡ R ++ (F ++ (T ++ B))
-put-parts t R F T B size r f l b =
-    let two : putMid 22 22 (R ++ drop 22 t) F ≡ (R ++ F) ++ drop 22 (drop 22 t) = placed R (drop 22 t) F 22 22 r f in
-    let n : length (R ++ F) ≡ 44 = omega (arith, length-append R F) in
-    let m : length ((R ++ F) ++ T) ≡ 78 = omega (arith, n, length-append (R ++ F) T) in
-    let d = drop 22 (drop 22 t) in
-    let gone : length (drop 34 d) ≤ 41
-    = omega (arith, length-drop 34 d, length-drop 22 (drop 22 t), length-drop 22 t) in
-    ap (λ (x : List ℕ). putMid 78 41 (putMid 44 34 x T) B) two
-    ∙ ap (λ (x : List ℕ). putMid 78 41 x B) (placed (R ++ F) d T 44 34 n l)
-    ∙ placed ((R ++ F) ++ T) (drop 34 d) B 78 41 m b
-    ∙ ap (λ (x : List ℕ). (((R ++ F) ++ T) ++ B) ++ x) (drop-of-length-le (drop 34 d) gone)
-    ∙ append-nil (((R ++ F) ++ T) ++ B) ∙ simp append-assoc
-
-registers-length : (r : Registers) → length (registerBytes r) ≡ 22
-unfolding registerBytes
-registers-length r = refl
-
-frame-length : (f : Frame) (idle : ℕ) → length (frameBytes f ++ idle ∷ []) ≡ 22
-unfolding frameBytes
-frame-length f idle = refl
-
--- bytes over which the parts of a state were written keep it
-pub kept : (s : State) → Fits s → (t R F T B : List ℕ) → length t ≡ stateBytes → R ≡ registerBytes (s .core .regs)
-    → F ≡ frameBytes (s .core .frame) ++ bitOf (s .core .idle) ∷ [] → T ≡ bufferBytes tbfBytes (s .tbf)
-    → B ≡ bufferBytes rbfBytes (s .rbf)
-    → Keeps s (putMid 78 41 (putMid 44 34 (putMid 22 22 (R ++ drop 22 t) F) T) B)
-unfolding encode
-kept s fits t R F T B size r f l b =
-    let whole : putMid 78 41 (putMid 44 34 (putMid 22 22 (R ++ drop 22 t) F) T) B ≡ encode s
-    = put-parts t R F T B size (ap length r ∙ registers-length (s .core .regs))
-    (ap length f ∙ frame-length (s .core .frame) (bitOf (s .core .idle)))
-    (ap length l ∙ buffer-length tbfBytes (s .tbf) (fits .tbf))
-    (ap length b ∙ buffer-length rbfBytes (s .rbf) (fits .rbf))
-    ∙ rw (r, f, l, b) (simp append-assoc) in
-    record { spelled = whole; again = ap decode whole ∙ decoded s fits }
