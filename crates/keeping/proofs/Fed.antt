@@ -1,5 +1,6 @@
--- What follows from the contracts of `iebus_unit_reset` and `iebus_unit_run` alone: a list that is fed in pieces, over
--- any number of calls, is one run; and demand 3 for two such lists.
+-- What follows from the contracts of `iebus_unit_reset` and `iebus_unit_run` alone: a call that is refused changes
+-- nothing; a list that is fed in pieces, over any number of calls, with refused ones among them, is one run; and demand 3
+-- for two such lists.
 use mathlib.Core.Path.{_≡_, refl, sym, ap, _∙_}
 use mathlib.Core.List.{List, [], _∷_, _++_, append-nil}
 use Prim.Native.Nat.{ℕ, _*_, _%_}
@@ -16,20 +17,51 @@ use Rattle.rules.specs.State.{State, reset}
 use Rattle.lists.specs.Bytes.{CalledBytes, byteRefusal, bytesAfter, bytesOf, bytesOfWord, wordFrom, wordsOf}
 use Rattle.lists.proofs.Alike.{AlikeIn, answers-alike}
 use Rattle.lists.proofs.Called.{answers-length, answers-spelled, taken-whole}
-use Rattle.keeping.specs.Calls.{Ran, Reset, resetState, runAnswers, runBytes, runRefusal}
+use Rattle.keeping.specs.Calls.{Ran, Reset, resetBytes, resetState, runAnswers, runBytes, runRefusal}
 use Rattle.keeping.specs.Calls.{runState, sizeRefusal}
 use Rattle.keeping.specs.Decode.{decode}
 use Rattle.keeping.specs.Encode.{encode}
 use Rattle.keeping.specs.Layout.{stateBytes}
 use Rattle.keeping.proofs.Again.{same-size}
 
--- calls one after the other, none refused, each on the bytes that the last one left: the words of all of them as one
--- list, and their answers
+-- ---- calls that are refused
+
+-- 11, 12 and 100: no byte of the state is written, and none of the answers
+pub refused-run : {kept words out kept′ out′ : List ℕ} {number : ℕ} → Ran kept words out number kept′ out′
+    → (number ≡ 0 → ⊥) → (kept′ ≡ kept) × (out′ ≡ out)
+unfolding runBytes runAnswers
+refused-run call wrong =
+    let some = ne-eqb _ _ (λ zero. wrong (call .ends ∙ zero)) in (call .left ∙ rw some, call .written ∙ rw some)
+
+pub refused-reset : {kept kept′ : List ℕ} {number : ℕ} → Reset kept number kept′ → (number ≡ 0 → ⊥) → kept′ ≡ kept
+unfolding resetBytes
+refused-reset call wrong = call .left ∙ rw (ne-eqb _ _ (λ zero. wrong (call .ends ∙ zero)))
+
+-- Any number of refused calls, one after the other, and the bytes that keep the unit before and after them. Such a call
+-- may be given other bytes than these, fewer or more: `view` says where in what it was given the unit's bytes are seen.
+pub data Wrong : List ℕ → List ℕ → Type 0 where
+  none : {kept : List ℕ} → Wrong kept kept
+  wrong-run : (view : List ℕ → List ℕ) {given words out given′ out′ kept′ : List ℕ} {number : ℕ}
+      → Ran given words out number given′ out′ → (number ≡ 0 → ⊥) → Wrong (view given′) kept′
+      → Wrong (view given) kept′
+  wrong-reset : (view : List ℕ → List ℕ) {given given′ kept′ : List ℕ} {number : ℕ} → Reset given number given′
+      → (number ≡ 0 → ⊥) → Wrong (view given′) kept′ → Wrong (view given) kept′
+
+pub nothing-changed : {kept kept′ : List ℕ} → Wrong kept kept′ → kept′ ≡ kept
+nothing-changed none = refl
+nothing-changed (wrong-run view call wrong calls) = nothing-changed calls ∙ ap view (refused-run call wrong .0)
+nothing-changed (wrong-reset view call wrong calls) = nothing-changed calls ∙ ap view (refused-reset call wrong)
+
+-- ---- a list in pieces
+
+-- Calls one after the other, each on the bytes that the last one left, with refused ones before, between and behind
+-- those that are not: the words of the calls that are not refused, in their order, as one list, and the answers to them
 pub data Fed : List ℕ → List ℕ → List ℕ → List ℕ → Type 0 where
-  one : {kept words out kept′ out′ : List ℕ} → Ran kept words out 0 kept′ out′
-      → Fed kept words (take (length words) out′) kept′
-  more : {kept words out middle out′ words′ said kept′ : List ℕ} → Ran kept words out 0 middle out′
-      → Fed middle words′ said kept′ → Fed kept (words ++ words′) (take (length words) out′ ++ said) kept′
+  one : {kept begun words out left out′ kept′ : List ℕ} → Wrong kept begun → Ran begun words out 0 left out′
+      → Wrong left kept′ → Fed kept words (take (length words) out′) kept′
+  more : {kept begun words out middle out′ words′ said kept′ : List ℕ} → Wrong kept begun
+      → Ran begun words out 0 middle out′ → Fed middle words′ said kept′
+      → Fed kept (words ++ words′) (take (length words) out′ ++ said) kept′
 
 -- one run of the words from the state that the bytes `kept` keep
 pub record OneRun (kept words said kept′ : List ℕ) : Type 0 where
@@ -77,7 +109,7 @@ spelled-length s words h =
       words-length words h,
     )
 
--- ---- one call
+-- ---- one call that is not refused
 
 module _ {kept words out kept′ out′ : List ℕ} (call : Ran kept words out 0 kept′ out′) where
   lists-taken : byteRefusal words out ≡ 0
@@ -102,9 +134,10 @@ module _ {kept words out kept′ out′ : List ℕ} (call : Ran kept words out 0
 -- ---- any number of calls
 
 pub as-one-run : {kept words said kept′ : List ℕ} → Fed kept words said kept′ → OneRun kept words said kept′
-as-one-run (one call) = one-call call
-as-one-run (more {kept} {words} {out} {middle} {out′} {words′} {said} {kept′} call calls) =
-    let first = one-call call in
+as-one-run (one {kept} {begun} {words} {out} {left} {out′} {kept′} before call behind) =
+    rw (nothing-changed behind, ← nothing-changed before) (one-call call)
+as-one-run (more {kept} {begun} {words} {out} {middle} {out′} {words′} {said} {kept′} before call calls) =
+    let first : OneRun kept words (take (length words) out′) middle = rw (← nothing-changed before) (one-call call) in
     let rest = as-one-run calls in
     let s = decode kept in
     let A = wordsOf words in
@@ -153,8 +186,8 @@ pieces-from-reset {before} {kept} {words} {said} {kept′} {out} {out′} begun 
 -- ---- demand 3
 
 fed-protected : {kept words said kept′ : List ℕ} → Fed kept words said kept′ → Protected unit
-fed-protected (one call) = call .protected
-fed-protected (more call calls) = call .protected
+fed-protected (one before call behind) = call .protected
+fed-protected (more before call calls) = call .protected
 
 -- the words that the answer bytes spell
 words-again : (s : State) (ws : List ℕ) → wordsOf (bytesOf (answers unit s ws)) ≡ answers unit s ws ++ []
