@@ -10,10 +10,10 @@ use lib.Dec.{lit≤}
 use Rattle.line.specs.Numbers.{contestSlots}
 use Rattle.line.specs.Parity as parity
 use Rattle.line.specs.Slot.{slotOf, classOf}
-use Rattle.contest.specs.Contest.{alike, firstOut, firstPlace, firstTwin, inRange, lossOf, lossesOf, numberOf}
-use Rattle.contest.specs.Contest.{remaining, settled}
-use Rattle.contest.specs.Cases.{broadcast, ordinary}
-use Rattle.contest.specs.declared.contenders.Contender.{Contender}
+use Rattle.contenders.specs.Contest.{alike, firstOut, firstPlace, firstTwin, inRange, lossOf, lossesOf, numberOf}
+use Rattle.contenders.specs.Contest.{remaining, settled}
+use Rattle.contenders.specs.Cases.{broadcast, ordinary}
+use Rattle.contenders.specs.declared.Contender.{Contender}
 use Rattle.place.specs.Frame as frame
 use Rattle.place.specs.Slaves as slaves
 use Rattle.place.specs.Drive as drive

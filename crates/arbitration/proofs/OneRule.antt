@@ -12,11 +12,11 @@ use lib.ListN.{List·getD-append, List·getD-map, drop, getD, length, length-app
 use Rattle.line.specs.Numbers.{contestSlots, driveStart, highestAddress, lastContestSlot}
 use Rattle.line.proofs.Either.{below-or-not, both, either}
 use Rattle.line.specs.Parity.{levelOf}
-use Rattle.contest.specs.Contest.{Wins, firstOut, firstPlace, inRange, lossOf, lossesOf, nobody, numberOf, outOfRange}
-use Rattle.contest.specs.Contest.{winnerOf}
+use Rattle.contenders.specs.Contest.{Wins, firstOut, firstPlace, inRange, lossOf, lossesOf, nobody, numberOf, outOfRange}
+use Rattle.contenders.specs.Contest.{winnerOf}
 use Rattle.contest.specs.Deciding.{Fair}
-use Rattle.contest.specs.declared.contenders.Contender.{Contender}
-use Rattle.contest.proofs.contenders.Winner.{length-losses}
+use Rattle.contenders.specs.declared.Contender.{Contender}
+use Rattle.contest.proofs.Winner.{length-losses}
 use Rattle.rules.specs.State.{State, reset}
 use Rattle.rules.specs.Step.{answerOf, nextDrive, stepOf}
 use Rattle.rules.specs.declared.answer.Answer.the-variants.{Given}

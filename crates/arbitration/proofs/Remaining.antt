@@ -12,7 +12,7 @@ use Rattle.line.specs.Choice.{pick}
 use Rattle.line.specs.Numbers.{lastContestSlot}
 use Rattle.line.specs.Parity.{levelOf}
 use Rattle.line.proofs.Either.{both}
-use Rattle.contest.specs.Contest.{loses, lossOf, numberOf, remaining, settled}
+use Rattle.contenders.specs.Contest.{loses, lossOf, numberOf, remaining, settled}
 use Rattle.rules.specs.State.{State}
 use Rattle.rules.specs.Step.{nextDrive, stepOf}
 use Rattle.rules.proofs.Calm.{pick-ind, pick-no, pick-yes}

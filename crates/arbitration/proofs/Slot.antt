@@ -14,7 +14,7 @@ use Rattle.line.specs.Slot.{Class, slot, slotOf, classOf}
 use Rattle.line.specs.declared.slot.Slot.the-variants.{Level}
 use Rattle.line.proofs.Either.{below-or-not, both}
 use Rattle.line.proofs.Levels.{level-le}
-use Rattle.contest.specs.Contest.{loses, numberOf}
+use Rattle.contenders.specs.Contest.{loses, numberOf}
 use Rattle.place.specs.Frame.{nextOf, shiftedOf, toField}
 use Rattle.place.specs.Drive.{driveIn, driveOf, sentOf}
 use Rattle.place.specs.Drive as drive

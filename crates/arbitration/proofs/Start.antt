@@ -6,7 +6,7 @@ use native.Mathlib.Omega.{arith}
 use Rattle.line.specs.Choice.{bitOf, _▹_}
 use Rattle.line.specs.Numbers.{driveStart}
 use Rattle.line.specs.Slot.{slotOf, classOf}
-use Rattle.contest.specs.declared.contenders.Contender.{Contender}
+use Rattle.contenders.specs.declared.Contender.{Contender}
 use Rattle.place.specs.Frame.{begunOf}
 use Rattle.place.specs.Slaves.{writesOf}
 use Rattle.place.specs.declared.Field.the-variants.{Broadcast, Master, Slave, Control, Length, Data}

@@ -9,10 +9,10 @@ use lib.Dec.{eqb}
 use lib.ListN.{getD, length}
 use Rattle.line.specs.Numbers.{lastContestSlot}
 use Rattle.line.proofs.Either.{below-or-not, same-or-not}
-use Rattle.contest.specs.Contest.{Wins, lossesOf, nobody, numberOf, winnerOf}
+use Rattle.contenders.specs.Contest.{Wins, lossesOf, nobody, numberOf, winnerOf}
 use Rattle.contest.specs.Deciding.{Fair, Least}
-use Rattle.contest.specs.declared.contenders.Contender.{Contender}
-use Rattle.contest.proofs.contenders.Winner.{winner-is, wins}
+use Rattle.contenders.specs.declared.Contender.{Contender}
+use Rattle.contest.proofs.Winner.{winner-is, wins}
 use Rattle.arbitration.specs.Group.{remains}
 use Rattle.arbitration.proofs.Remaining.{gone}
 

@@ -10,8 +10,8 @@ use lib.ListN.{length, getD, replicate}
 use Rattle.line.specs.Choice.{bitOf}
 use Rattle.line.specs.Numbers.{contestSlots, driveReleased, driveStart}
 use Rattle.line.specs.Parity.{levelOf}
-use Rattle.contest.specs.Contest.{Wins, firstOut, firstTwin, lossesOf, nobody, numberOf, winnerOf}
-use Rattle.contest.specs.declared.contenders.Contender.{Contender}
+use Rattle.contenders.specs.Contest.{Wins, firstOut, firstTwin, lossesOf, nobody, numberOf, winnerOf}
+use Rattle.contenders.specs.declared.Contender.{Contender}
 use Rattle.rules.specs.State.{State}
 use Rattle.rules.specs.Step.{answerOf, nextDrive, stepOf}
 use Rattle.rules.specs.declared.answer.Answer.the-variants.{Given}
