@@ -12,11 +12,14 @@ use Rattle.rules.specs.State.{State}
 use Rattle.rules.specs.Step.{stepOf, answerOf, wordOf}
 use Rattle.lent.specs.declared.step.Answered.{Answered}
 use Rattle.lent.specs.declared.step.Lent.{Lent}
-use Rattle.list_run.specs.Run.{Whole}
+use Rattle.unit.specs.Unit.{stateOf, unitIn}
+use Rattle.unit.specs.declared.step.Unit.{Unit}
+use Rattle.list_run.specs.Run.{Whole, unitOver}
 use Rattle.lists.specs.Bytes.{byteRefusal, bytesAfter, bytesOf, bytesOfWord, wordsOf}
 use Rattle.lists.proofs.Called.{taken-whole}
 use Rattle.list_run.specs.Run.{wordAt, wordPut}
 use Rattle.list_run.proofs.Underway.{cut, run-cons, run-nil, answers-cons, answers-nil, whole-after}
+use Rattle.list_run.proofs.Underway.{one-over, over-nil}
 
 -- the words from a place on: the word there, and those from four bytes further on
 words-cut : (s : List ℕ) (at : ℕ) → at + 4 ≤ length s → wordsOf (drop at s) ≡ wordAt s at ∷ wordsOf (drop (at + 4) s)
@@ -101,18 +104,37 @@ all-spelled {s₀} {s} {words} {first} {now} {at} d h =
 
 -- ---- the same by a unit whose buffers are lent
 
-abbrev pub SpelledIn : State → List ℕ → List ℕ → Lent → List ℕ → List ℕ → List ℕ → ℕ → Type 0
-SpelledIn s₀ words first u t r now at = Spelled s₀ words first (stateIn u t r) now at × Whole t r
+-- the run from a unit `v₀`
+pub record SpelledIn (v₀ : Unit) (words first : List ℕ) (u : Lent) (t r now : List ℕ) (at : ℕ) : Type 0 where
+  pub ran : Spelled (stateOf v₀) words first (stateIn u t r) now at
+  pub lent : Whole t r
+  pub units : unitOver v₀ (wordsOf words) ≡ unitOver (unitIn u t r) (wordsOf (drop at words))
 
-pub one-spelled-in : {s₀ : State} {words first now t t' r r' : List ℕ} {at w : ℕ} {u : Lent} {a : Answered}
-    → SpelledIn s₀ words first u t r now at → at < length words → w ≡ wordAt words at → Runs u w t t' r r' a
+pub none-spelled-in : (u : Lent) (words first t r : List ℕ) → byteRefusal words first ≡ 0 → Whole t r
+    → SpelledIn (unitIn u t r) words first u t r first 0
+none-spelled-in u words first t r taken whole =
+    record { ran = none-spelled _ _ _ taken; lent = whole; units = refl }
+
+pub one-spelled-in : {v₀ : Unit} {words first now t t' r r' : List ℕ} {at w : ℕ} {u : Lent} {a : Answered}
+    → SpelledIn v₀ words first u t r now at → at < length words → w ≡ wordAt words at → Runs u w t t' r r' a
     → (v : ℕ) → v ≡ wordOf (a .answer)
-    → SpelledIn s₀ words first (a .lent) t' r' (wordPut now at v) (at + 4)
-one-spelled-in {u = u} {a = a} (d, whole) h word ran v e = (
-  one-spelled d h _ (ran .state (whole .0) (whole .1) ∙ ap (stepOf _) word) v
-      (e ∙ ap wordOf (ran .answer (whole .0) (whole .1) ∙ ap (answerOf _) word)),
-  whole-after whole ran,
-)
+    → SpelledIn v₀ words first (a .lent) t' r' (wordPut now at v) (at + 4)
+one-spelled-in {words = words} {t = t} {r = r} {at = at} {w = w} {u = u} d h word step v e =
+    let whole = d .lent in
+    let inside : at + 4 ≤ length words = omega (arith, d .ran .whole) in
+    record {
+      ran = one-spelled (d .ran) h _ (step .state (whole .0) (whole .1) ∙ ap (stepOf _) word) v
+          (e ∙ ap wordOf (step .answer (whole .0) (whole .1) ∙ ap (answerOf _) word));
+      lent = whole-after whole step;
+      units = d .units
+          ∙ ap (unitOver (unitIn u t r)) (words-cut words at inside
+          ∙ ap (λ (x : ℕ). x ∷ wordsOf (drop (at + 4) words)) (sym word))
+          ∙ one-over w _ whole step;
+    }
+
+pub all-spelled-over : {v₀ : Unit} {words first now t r : List ℕ} {at : ℕ} {u : Lent}
+    → SpelledIn v₀ words first u t r now at → length words ≤ at → unitIn u t r ≡ unitOver v₀ (wordsOf words)
+all-spelled-over {words = words} d h = sym (d .units ∙ rw (drop-of-length-le words h, words-nil, over-nil))
 
 -- the answer bytes of runs from one state
 pub same-answers : (s s′ : State) (words out : List ℕ) → s ≡ s′ → bytesAfter s words out ≡ bytesAfter s′ words out

@@ -8,13 +8,15 @@ use lib.ListN.{length, drop, getD, set, drop-of-length-le}
 use lib.Seq.{drop-cons}
 use Rattle.line.proofs.Filled.{Filled, nothing-filled, one-filled, all-filled}
 use Rattle.isolation.specs.Runs.{run, answers}
-use Rattle.lent.specs.Both.{Runs, stateIn}
+use Rattle.lent.specs.Both.{Left, Runs, stateIn}
 use Rattle.rules.specs.Machine.{unit}
 use Rattle.rules.specs.State.{State}
 use Rattle.rules.specs.Step.{stepOf, answerOf, wordOf}
 use Rattle.lent.specs.declared.step.Answered.{Answered}
 use Rattle.lent.specs.declared.step.Lent.{Lent}
-use Rattle.list_run.specs.Run.{Whole}
+use Rattle.unit.specs.Unit.{stateOf, unitBy, unitIn}
+use Rattle.unit.specs.declared.step.Unit.{Unit}
+use Rattle.list_run.specs.Run.{Whole, unitOver}
 
 pub run-cons : (s : State) (w : ℕ) (ws : List ℕ) → run unit s (w ∷ ws) ≡ run unit (stepOf s w) ws
 unfolding run
@@ -70,19 +72,51 @@ all-run {s₀} {s} {words} {first} {now} {i} d h =
 
 -- ---- the same by a unit whose buffers are lent
 
-abbrev pub UnderwayIn : State → List ℕ → List ℕ → Lent → List ℕ → List ℕ → List ℕ → ℕ → Type 0
-UnderwayIn s₀ words first u t r now i = Underway s₀ words first (stateIn u t r) now i × Whole t r
+over-cons : (v : Unit) (w : ℕ) (ws : List ℕ) → unitOver v (w ∷ ws) ≡ unitOver (unitBy v w) ws
+unfolding unitOver
+over-cons v w ws = refl
+
+pub over-nil : (v : Unit) → unitOver v [] ≡ v
+unfolding unitOver
+over-nil v = refl
 
 -- they stay whole
 pub whole-after : {u : Lent} {w : ℕ} {t t' r r' : List ℕ} {a : Answered} → Whole t r → Runs u w t t' r r' a
     → Whole t' r'
 whole-after whole ran = (ran .tbf-kept ∙ whole .0, ran .rbf-kept ∙ whole .1)
 
-pub one-run-in : {s₀ : State} {words first now t t' r r' : List ℕ} {i : ℕ} {u : Lent} {a : Answered}
-    → UnderwayIn s₀ words first u t r now i → i < length words → length words ≤ length first
+-- one word more of a list
+pub one-over : {u : Lent} {t t' r r' : List ℕ} {a : Answered} (w : ℕ) (ws : List ℕ) → Whole t r → Runs u w t t' r r' a
+    → unitOver (unitIn u t r) (w ∷ ws) ≡ unitOver (unitIn (a .lent) t' r') ws
+unfolding unitBy
+one-over {u} {t} {r = r} w ws whole ran =
+    over-cons (unitIn u t r) w ws
+    ∙ ap (λ (left : Left). unitOver (unitIn (left .lent) (left .tbf) (left .rbf)) ws)
+    (sym (ran .whole (whole .0) (whole .1)))
+
+-- the run from a unit `v₀`
+pub record UnderwayIn (v₀ : Unit) (words first : List ℕ) (u : Lent) (t r now : List ℕ) (i : ℕ) : Type 0 where
+  pub ran : Underway (stateOf v₀) words first (stateIn u t r) now i
+  pub lent : Whole t r
+  pub units : unitOver v₀ words ≡ unitOver (unitIn u t r) (drop i words)
+
+pub none-run-in : (u : Lent) (words first t r : List ℕ) → Whole t r
+    → UnderwayIn (unitIn u t r) words first u t r first 0
+none-run-in u words first t r whole = record { ran = none-run _ _ _; lent = whole; units = refl }
+
+pub one-run-in : {v₀ : Unit} {words first now t t' r r' : List ℕ} {i : ℕ} {u : Lent} {a : Answered}
+    → UnderwayIn v₀ words first u t r now i → i < length words → length words ≤ length first
     → Runs u (getD words i 0) t t' r r' a → (v : ℕ) → v ≡ wordOf (a .answer)
-    → UnderwayIn s₀ words first (a .lent) t' r' (set now i v) (i + 1)
-one-run-in (d, whole) h room ran v e = (
-  one-run d h room _ (ran .state (whole .0) (whole .1)) v (e ∙ ap wordOf (ran .answer (whole .0) (whole .1))),
-  whole-after whole ran,
-)
+    → UnderwayIn v₀ words first (a .lent) t' r' (set now i v) (i + 1)
+one-run-in {words = words} {i = i} {u = u} d h room step v e =
+    let whole = d .lent in
+    record {
+      ran = one-run (d .ran) h room _ (step .state (whole .0) (whole .1)) v
+          (e ∙ ap wordOf (step .answer (whole .0) (whole .1)));
+      lent = whole-after whole step;
+      units = d .units ∙ ap (unitOver (unitIn u _ _)) (cut words i h) ∙ one-over _ _ whole step;
+    }
+
+pub all-over : {v₀ : Unit} {words first now t r : List ℕ} {i : ℕ} {u : Lent}
+    → UnderwayIn v₀ words first u t r now i → length words ≤ i → unitIn u t r ≡ unitOver v₀ words
+all-over {words = words} d h = sym (d .units ∙ rw (drop-of-length-le words h, over-nil))

@@ -3,10 +3,8 @@ ghost use mathlib.Core.Path.{_≡_};
 ghost use Prim.Native.Nat.{_+_, _<_, _≤_};
 ghost use lib.ListN.{length};
 ghost use Rattle.unit.specs.Unit.{stateOf};
-ghost use Rattle.lists.specs.Bytes.{CalledBytes, byteRefusal, stateAfter};
-ghost use Rattle.list_run.specs.Run.{RunsSpelled};
-ghost use Rattle.list_run.specs.Run.{wordAt, wordPut};
-ghost use Rattle.list_run.specs.Run.{Whole};
+ghost use Rattle.lists.specs.Bytes.{CalledBytes, byteRefusal, stateAfter, wordsOf};
+ghost use Rattle.list_run.specs.Run.{RunsSpelled, Whole, unitLeft, wordAt, wordPut};
 use crate::run::unit_of;
 use answers::answer_word;
 use answers::byte_refusal;
@@ -91,6 +89,7 @@ pub fn run_bytes(from: Unit, words: &[u8], answers: &mut [u8]) -> RanBytes
     ensures called { λ r. ⌜ CalledBytes (stateOf from) (now (words .entry)) (now (answers .entry)) (r .number)
         (now (answers .exit)) ⌝ }
     ensures left { λ r. ⌜ stateOf (r .unit) ≡ stateAfter (stateOf from) (now (words .entry)) (now (answers .entry)) ⌝ }
+    ensures whole { λ r. ⌜ r .unit ≡ unitLeft (r .number) from (wordsOf (now (words .entry))) ⌝ }
 {
     let number = byte_refusal(words.len(), answers.len());
     if number != 0 {

@@ -2,10 +2,9 @@
 ghost use mathlib.Core.Path.{_≡_};
 ghost use Prim.Native.Nat.{_≤_};
 ghost use lib.ListN.{length};
-ghost use Rattle.lent.specs.Both.{stateIn};
-ghost use Rattle.unit.specs.Unit.{stateOf};
+ghost use Rattle.unit.specs.Unit.{stateOf, unitIn};
 ghost use Rattle.lists.specs.Run.{Called};
-ghost use Rattle.list_run.specs.Run.{RunsLent, Whole, numberOf};
+ghost use Rattle.list_run.specs.Run.{RunsLent, Whole, numberOf, unitLeft};
 use answers::answer_word;
 use lent::step::Lent;
 use line::numbers::RBF_BYTES;
@@ -57,7 +56,7 @@ fn run_lent(
 }
 
 pub(crate) fn unit_of(lent: Lent, sent: [u8; TBF_BYTES], stored: [u8; RBF_BYTES]) -> Unit
-    ensures { λ r. ⌜ stateOf r ≡ stateIn lent sent stored ⌝ }
+    ensures { λ r. ⌜ r ≡ unitIn lent sent stored ⌝ }
 {
     let core = lent.core;
     let tbf = lent.tbf;
@@ -82,6 +81,7 @@ pub(crate) fn unit_of(lent: Lent, sent: [u8; TBF_BYTES], stored: [u8; RBF_BYTES]
 pub fn run(from: Unit, words: &[u32], answers: &mut [u32]) -> Finished
     ensures { λ r. ⌜ Called (stateOf from) (now (words .entry)) (now (answers .entry)) (numberOf (r .outcome))
         (stateOf (r .unit)) (now (answers .exit)) ⌝ }
+    ensures whole { λ r. ⌜ r .unit ≡ unitLeft (numberOf (r .outcome)) from (now (words .entry)) ⌝ }
 {
     if answers.len() < words.len() {
         return Finished {

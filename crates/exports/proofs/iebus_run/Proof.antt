@@ -10,4 +10,4 @@ iebus-run-spec =
     (λ c κs. search needs)
     (λ c. search needs)
     (λ c. let at = c .before .before in
-    rw (at .before .before .reset .ensures) at (at .run-bytes .ensures .0)))
+    rw (at .before .before .reset .ensures .0) at (at .run-bytes .ensures .0)))

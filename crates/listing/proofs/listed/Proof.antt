@@ -32,7 +32,7 @@ listed-spec =
     let from-zero : wholeWords (length input) - 0 ≡ wholeWords (length input) = omega arith in
     let is : ran .run-bytes .last .1 .1 .0 ≡ answeredOf input =
     (rw (ran .before .before .before .before .whole-words .ensures .0)
-    at (ran .run-bytes .ensures .0 .written ∙ same-answers _ _ _ _ (ran .before .before .before .reset .ensures)))
+    at (ran .run-bytes .ensures .0 .written ∙ same-answers _ _ _ _ (ran .before .before .before .reset .ensures .0)))
     ∙ ap (λ (k : ℕ). bytesAfter reset (take k input) (replicate mostBytes 0)) from-zero
     in
     let listed = c .before .before .listing .ensures in

@@ -17,7 +17,7 @@ reset-spec =
     (λ c. search needs)
     (λ c. let right = eq-eqb _ _ (c .before .before .before .before .before .if1 .left) in
     let keeps = c .before .before .put-unit .ensures in
-    let fresh = c .before .before .before .reset .ensures in
+    let fresh = c .before .before .before .reset .ensures .0 in
     record {
       ends = simp right;
       left = keeps .spelled ∙ ap encode fresh ∙ simp right;

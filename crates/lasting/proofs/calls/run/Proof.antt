@@ -45,7 +45,7 @@ run-spec =
     let sized = at .before .before .before .before in
     let listed = sized .before in
     let all = promised _ _ _ _ _ _ _ (sym (listed .before .byte-refusal .ensures) ∙ listed .if1 .left)
-    (sized .if2 .left) (at .before .before .unit-from .ensures) (ran .1) (ran .0 .written)
+    (sized .if2 .left) (at .before .before .unit-from .ensures) (ran .1 .0) (ran .0 .written)
     (c .before .before .put-unit .ensures) in
     record {
       ends = sym (all .number);

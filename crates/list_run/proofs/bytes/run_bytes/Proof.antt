@@ -1,14 +1,16 @@
 use borrow.Author.Needs.{needs}
 use borrow.Author.Tests.{eq-eqb, ne-eqb}
-use mathlib.Core.Path.{_∙_}
+use mathlib.Core.Path.{ap, _∙_}
 use Rattle.rules.proofs.Protects.{holds}
+use Rattle.unit.specs.Unit.{stateOf}
+use Rattle.list_run.specs.Run.{unitLeft}
 use Rattle.lists.specs.Bytes.{bytesAfter, stateAfter}
 use Rattle.lists.proofs.Rulings.{spelled-ruled}
 use Rattle.list_run.proofs.bytes.run_bytes.Statement.{statement}
 use Rattle.list_run.proofs.bytes.run_bytes.Tie as tie
 
 pub run-bytes-spec : {M : Type 1} → statement M
-unfolding stateAfter bytesAfter
+unfolding unitLeft stateAfter bytesAfter
 run-bytes-spec =
     tie.close
     (tie.spec
@@ -21,7 +23,7 @@ run-bytes-spec =
         ruled = λ none. absurd (c .if1 .taken none);
         protected = holds;
       },
-      simp (← number, some),
+      (simp (← number, some), simp some),
     ))
     (λ c κs. search needs)
     (λ c κs. search needs)
@@ -37,5 +39,8 @@ run-bytes-spec =
         ruled = λ _. spelled-ruled _ _ _ _ (ran .written);
         protected = holds;
       },
-      c .unit-of .ensures ∙ ran .state ∙ simp (← number, none),
+      (
+        ap stateOf (c .unit-of .ensures) ∙ ran .state ∙ simp (← number, none),
+        c .unit-of .ensures ∙ ran .whole ∙ simp none,
+      ),
     )))
