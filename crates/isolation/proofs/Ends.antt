@@ -1,5 +1,5 @@
 -- What follows for a machine that protects the holder of its lock: a word that is struck changes nothing that is
--- seen, and the lock, where what is seen tells whom it names, goes on as long in both lists and ends at like
+-- seen, and the lock, where what is seen tells whether it is locked, goes on as long in both lists and ends at like
 -- places.
 use mathlib.Core.Bool.{Bool, true, false, false≢true}
 use mathlib.Core.Logic.{_⊎_, inl, inr}
@@ -67,53 +67,54 @@ counted (false ∷ ms) (suc i) n l =
 
 module _ (M : Machine) (protects : Protected M) (h : ℕ) (s : M .State) where
   -- a word that is not kept changes nothing that is seen
-  pub struck-unseen : (A : List ℕ) → M .waiting s → spaced false (map classOf A) ≡ true → (i : ℕ)
-      → Compared M h s A (suc i) → getD (keeps h A) i false ≡ false
+  pub struck-unseen : (A : List ℕ) → M .waiting s → M .holder s ≡ h → spaced false (map classOf A) ≡ true → (i : ℕ)
+      → Compared M s A (suc i) → getD (keeps h A) i false ≡ false
       → M .observed (run M s (take i A)) ≡ M .observed (run M s (take (suc i) A))
   unfolding Protected
-  struck-unseen A v g i c e =
-      let given : Given M h s A A = record { waits = v; spaced-first = g; spaced-second = g; same = refl } in
-      let c′ = shorter M h s A (suc i) i (omega arith) c in
+  struck-unseen A v o g i c e =
+      let given : Given M h s A A
+      = record { waits = v; names = o; spaced-first = g; spaced-second = g; same = refl } in
+      let c′ = shorter M s A (suc i) i (omega arith) c in
       protects h s A A given .states i (suc i) (count-unset (keeps h A) i e) c′ c
 
-  module _ (A B : List ℕ) (given : Given M h s A B) (i j : ℕ) (a : Compared M h s A (suc i)) where
+  module _ (A B : List ℕ) (given : Given M h s A B) (i j : ℕ) (a : Compared M s A (suc i)) where
     -- after the words at like places the states are seen alike, also if the lock ends with them
-    pub after-alike : Places h A B i j → Compared M h s B (suc j)
+    pub after-alike : Places h A B i j → Compared M s B (suc j)
         → M .observed (run M s (take (suc i) A)) ≡ M .observed (run M s (take (suc j) B))
     unfolding Protected
     after-alike x b =
         let n = count-set (keeps h A) i (x .first) ∙ ap suc (x .behind) ∙ sym (count-set (keeps h B) j (x .second)) in
         protects h s A B given .states (suc i) (suc j) n a b
 
-    module _ (tells : (t u : M .State) → M .observed t ≡ M .observed u → M .lockedTo h t → M .lockedTo h u) where
+    module _ (tells : (t u : M .State) → M .observed t ≡ M .observed u → M .locked t ≡ M .locked u) where
       -- if the lock does not end with the one, it does not end with the other
-      pub ends-alike : Places h A B i j → Compared M h s B (suc j) → M .lockedTo h (run M s (take (suc i) A))
-          → M .lockedTo h (run M s (take (suc j) B))
-      ends-alike x b l = tells (run M s (take (suc i) A)) (run M s (take (suc j) B)) (after-alike x b) l
+      pub ends-alike : Places h A B i j → Compared M s B (suc j) → M .locked (run M s (take (suc i) A)) ≡ true
+          → M .locked (run M s (take (suc j) B)) ≡ true
+      ends-alike x b l = sym (tells (run M s (take (suc i) A)) (run M s (take (suc j) B)) (after-alike x b)) ∙ l
 
       module _ (n : Behind h A B i j) (u : (k : ℕ) → k ≤ suc j → M .requesting (run M s (take k B)) ≡ false) where
         -- behind no more kept words than lie behind i words of the first list, the second is locked too
-        locked-too : (k : ℕ) → k ≤ j → ((l : ℕ) → l < k → M .lockedTo h (run M s (take l B)))
-            → M .lockedTo h (run M s (take k B))
+        locked-too : (k : ℕ) → k ≤ j → ((l : ℕ) → l < k → M .locked (run M s (take l B)) ≡ true)
+            → M .locked (run M s (take k B)) ≡ true
         unfolding Protected
         locked-too k g before =
             let f = count-fewer (keeps h B) k j g in
             let x = counted (keeps h A) i (count (take k (keeps h B))) (omega arith) in
-            let c = shorter M h s A (suc i) (x .place) (omega arith) a in
-            let d : Compared M h s B k = record { held = before; unasked = λ l m. u l (omega arith) } in
+            let c = shorter M s A (suc i) (x .place) (omega arith) a in
+            let d : Compared M s B k = record { held = before; unasked = λ l m. u l (omega arith) } in
             let e = protects h s A B given .states (x .place) k (x .counts) c d in
-            tells (run M s (take (x .place) A)) (run M s (take k B)) e (a .held (x .place) (omega arith))
+            sym (tells (run M s (take (x .place) A)) (run M s (take k B)) e) ∙ a .held (x .place) (omega arith)
 
         -- so it is before each of the words up to there
-        one-more : (k : ℕ) → k ≤ j → ((l : ℕ) → l < k → M .lockedTo h (run M s (take l B))) → (l : ℕ)
-            → (suc l ≡ suc k) ⊎ (suc l < suc k) → M .lockedTo h (run M s (take l B))
+        one-more : (k : ℕ) → k ≤ j → ((l : ℕ) → l < k → M .locked (run M s (take l B)) ≡ true) → (l : ℕ)
+            → (suc l ≡ suc k) ⊎ (suc l < suc k) → M .locked (run M s (take l B)) ≡ true
         one-more k g before l (inl e) = let e′ : k ≡ l = omega arith in rw e′ at (locked-too k g before)
         one-more k g before l (inr m) = before l (omega arith)
 
-        held-too : (k : ℕ) → k ≤ suc j → (l : ℕ) → l < k → M .lockedTo h (run M s (take l B))
+        held-too : (k : ℕ) → k ≤ suc j → (l : ℕ) → l < k → M .locked (run M s (take l B)) ≡ true
         held-too zero g l m = absurd (omega arith)
         held-too (suc k) g l m = one-more k (omega arith) (held-too k (omega arith)) l (eq-or-lt-of-le m)
 
         -- the comparison goes as far in the second list as in the first, unless a master request comes
-        pub as-far : Compared M h s B (suc j)
+        pub as-far : Compared M s B (suc j)
         as-far = record { held = held-too (suc j) (omega arith); unasked = u }

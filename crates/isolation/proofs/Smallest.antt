@@ -1,11 +1,19 @@
 -- A smallest machine that meets the conditions: it drives 0 inside every frame, and a host word's answer shows what it
--- drives. So the conditions can be met, and a host word's drive bits must be left out of the comparison.
-use mathlib.Core.Bool.{Bool, true, false}
+-- drives. So the conditions can be met; and three things must be left out of the claim, or it would be false of this
+-- machine: a host word's drive bits, what is driven when a host word comes, and a beginning inside a frame.
+use mathlib.Core.Bool.{Bool, true, false, false≢true}
 use mathlib.Core.Path.{_≡_, refl, sym, ap, _∙_}
-use Prim.Native.Nat.{ℕ, _+_, _*_}
-use Rattle.line.specs.Slot.{Class, slot, host, classOf}
+use mathlib.Core.List.{List, _∷_, map}
+use Prim.Native.Nat.{ℕ, suc, _+_, _*_}
+use lib.Dec.{eqb}
+use lib.ListN.{take}
+use Rattle.line.specs.Numbers.{driveReleased}
+use Rattle.line.specs.Slot.{Class, slot, host, classOf, slotOf}
 use Rattle.line.specs.declared.slot.Slot.the-variants.{Level, Start, Idle, Stray}
-use Rattle.isolation.specs.Runs.{Machine, Protected, latest, shown}
+use Rattle.isolation.specs.Words.{levels, spells, fromMaster, framed, marks, spaced, marked, count, keeps, kept}
+use Rattle.isolation.specs.Runs.{Machine, Places, Protected, Alike, Given, Compared}
+use Rattle.isolation.specs.Runs.{run, answers, driven, latest, shown}
+use Rattle.isolation.proofs.Leaks.{call, frame, isStart}
 use Rattle.isolation.proofs.Unwind.{protected}
 use Rattle.isolation.proofs.Unwinding.{Unwinding}
 
@@ -38,7 +46,8 @@ smallest =
       Observed = Unit {0};
       observed = λ s. tt;
       waiting = λ s. s ≡ true;
-      lockedTo = λ h s. Unit {0};
+      locked = λ s. true;
+      holder = λ s. 0;
       requesting = λ s. false;
     }
 
@@ -70,14 +79,18 @@ met h =
       sees = λ s t e. refl;
       asks = λ s t e. refl;
       calm = λ s bs. Unit {0};
+      bound = λ s. 0 ≡ h;
+      bound-waiting = λ s e o. o;
+      bound-word = λ s w o l. o;
+      bound-names = λ s o l. o;
       on-stray = λ s w r. (next s w (slot Stray) r, λ d. says s w d (slot Stray) r);
       on-idle = λ s w r. (next s w (slot Idle) r, λ q d. says s w d (slot Idle) r);
       wait-level = λ s w b r e q. (next s w (slot (Level b)) r ∙ e, refl, free-says s w (slot (Level b)) r e);
       wait-idle = λ s w r e. refl;
       wait-host = λ s w r e. (next s w host r ∙ e, λ q. free-says s w host r e);
       calm-start = λ s w bs r e q x. (tt, refl);
-      calm-level = λ s w b bs r x l q. (tt, refl);
-      calm-idle = λ s w r x l q. refl;
+      calm-level = λ s w b bs r x l o q. (tt, refl);
+      calm-idle = λ s w r x l o q. refl;
       calm-host = λ s w bs r x. tt;
       host-same = λ s t w r e. (
         refl,
@@ -94,3 +107,29 @@ met h =
 -- so its holder is protected
 pub smallest-protected : Protected smallest
 smallest-protected = protected smallest met
+
+-- ---- what the claim leaves out
+
+compared : (s : Bool) (A : List ℕ) (i : ℕ) → Compared smallest s A i
+compared s A i = record { held = λ k l. refl; unasked = λ k l. refl }
+
+-- what is driven when a host word comes: here it comes in a frame of another's, and in no frame
+pub host-slots-differ : ((A B : List ℕ) → Given smallest 0 true A B → (i j : ℕ) → Places 0 A B i j
+    → Compared smallest true A (suc i) → Compared smallest true B (suc j)
+    → driven driveReleased (take i (answers smallest true A)) ≡ driven driveReleased (take j (answers smallest true B)))
+    → ⊥
+unfolding spaced count keeps kept marked marks framed fromMaster levels spells classOf slotOf answers driven latest
+host-slots-differ claim =
+    false≢true (ap (eqb 1) (claim (2 ∷ call) call
+    record { waits = refl; names = refl; spaced-first = refl; spaced-second = refl; same = refl } 1 0
+    record { first = refl; second = refl; behind = refl } (compared true (2 ∷ call) 2) (compared true call 1)))
+
+-- a beginning inside a frame, at which the line is pulled: nothing is driven yet, and 0 is once a level was answered
+pub inside-differs : ((s : Bool) (A B : List ℕ) → spaced false (map classOf A) ≡ true
+    → spaced false (map classOf B) ≡ true → kept 0 A ≡ kept 0 B → Alike smallest 0 s A B)
+    → ⊥
+unfolding spaced count keeps kept marked marks framed fromMaster levels spells classOf slotOf answers driven latest
+inside-differs claim =
+    false≢true (sym (ap (eqb 1) (claim false frame (0 ∷ frame) refl refl refl .slots 0 1
+    record { first = refl; second = refl; behind = refl } (compared false frame 1) (compared false (0 ∷ frame) 2)
+    (λ e. false≢true (sym (ap isStart e))))))

@@ -109,15 +109,15 @@ module _ (M : Machine) where
     drives : (c ≡ host → ⊥) → p .drive ≡ q .drive
 
   -- a comparison that goes on behind the first word
-  onward : (h : ℕ) (s : M .State) (w : ℕ) (ws : List ℕ) (i : ℕ) → Compared M h s (w ∷ ws) (suc i)
-      → Compared M h (M .step s w) ws i
+  onward : (s : M .State) (w : ℕ) (ws : List ℕ) (i : ℕ) → Compared M s (w ∷ ws) (suc i)
+      → Compared M (M .step s w) ws i
   unfolding run
-  onward h s w ws i c =
+  onward s w ws i c =
       record { held = λ k l. c .held (suc k) (omega arith); unasked = λ k l. c .unasked (suc k) (omega arith) }
 
   -- a comparison that goes so far goes less far too
-  pub shorter : (h : ℕ) (s : M .State) (A : List ℕ) (i k : ℕ) → k ≤ i → Compared M h s A i → Compared M h s A k
-  shorter h s A i k g c =
+  pub shorter : (s : M .State) (A : List ℕ) (i k : ℕ) → k ≤ i → Compared M s A i → Compared M s A k
+  shorter s A i k g c =
       record { held = λ j l. c .held j (omega arith); unasked = λ j l. c .unasked j (omega arith) }
 
 module _ (M : Machine) (h : ℕ) (U : Unwinding M h) where
@@ -232,17 +232,18 @@ module _ (M : Machine) (h : ℕ) (U : Unwinding M h) where
 
     -- a word in a frame of another's: a host word is kept, and no start slot comes
     other-turn : (c : Class) → classOf w ≡ c → Other (levels (c ∷ cs)) p q → spaced true (c ∷ cs) ≡ true
-        → M .lockedTo h (p .state) → Turn (marks h false (c ∷ cs)) cs (after M p w) q (after M q w)
+        → M .locked (p .state) ≡ true → M .holder (p .state) ≡ h
+        → Turn (marks h false (c ∷ cs)) cs (after M p w) q (after M q w)
     unfolding Related levels marks spaced
-    other-turn (slot (Level b)) r x g l =
-        let y = U .calm-level (p .state) w b (levels cs) r (x .calm) l n in
+    other-turn (slot (Level b)) r x g l o =
+        let y = U .calm-level (p .state) w b (levels cs) r (x .calm) l o n in
         struck other g record { calm = y .0; kept-rests = x .kept-rests; same = y .1 ∙ x .same }
-    other-turn (slot Start) r x g l = absurd (false≢true g)
-    other-turn (slot Idle) r x g l =
-        let k = U .calm-idle (p .state) w r (x .calm) l n ∙ x .same in
+    other-turn (slot Start) r x g l o = absurd (false≢true g)
+    other-turn (slot Idle) r x g l o =
+        let k = U .calm-idle (p .state) w r (x .calm) l o n ∙ x .same in
         struck between g record { rests = idle-rests p w r n′; kept-rests = x .kept-rests; same = k }
-    other-turn (slot Stray) r x g l = struck other g (rw (stray-stays p w r) x)
-    other-turn host r x g l =
+    other-turn (slot Stray) r x g l o = struck other g (rw (stray-stays p w r) x)
+    other-turn host r x g l o =
         let y = host-kept r (x .kept-rests) (x .same) in
         let k = U .calm-host (p .state) w (levels cs) r (x .calm) in
         taken other g record { calm = k; kept-rests = y .0; same = y .1 }
@@ -262,11 +263,12 @@ module _ (M : Machine) (h : ℕ) (U : Unwinding M h) where
 
     -- a word, wherever the list stands
     turn : (m : Mode) (c : Class) → classOf w ≡ c → Related m (levels (c ∷ cs)) p q → spaced (busy m) (c ∷ cs) ≡ true
-        → M .lockedTo h (p .state) → Turn (marks h (ours m) (c ∷ cs)) cs (after M p w) q (after M q w)
+        → M .locked (p .state) ≡ true → M .holder (p .state) ≡ h
+        → Turn (marks h (ours m) (c ∷ cs)) cs (after M p w) q (after M q w)
     unfolding Related
-    turn between c r x g l = between-turn c r x g
-    turn other c r x g l = other-turn c r x g l
-    turn mine c r x g l = mine-turn c r x g
+    turn between c r x g l o = between-turn c r x g
+    turn other c r x g l o = other-turn c r x g l o
+    turn mine c r x g l o = mine-turn c r x g
 
   -- ---- any number of words
 
@@ -287,18 +289,20 @@ module _ (M : Machine) (h : ℕ) (U : Unwinding M h) where
 
   -- as far as the comparison goes, a list's run and its kept words' run stay related
   place : (ws : List ℕ) (i : ℕ) (m : Mode) (p q : Point M) → Related m (levels (map classOf ws)) p q
-      → spaced (busy m) (map classOf ws) ≡ true → Compared M h (p .state) ws i
+      → spaced (busy m) (map classOf ws) ≡ true → U .bound (p .state) → Compared M (p .state) ws i
       → Spot (marks h (ours m) (map classOf ws)) ws p q i
   unfolding goes run marked count marks
-  place ws zero m p q x g c = record { mode = m; mark = refl; gap = g; related = x }
-  place [] (suc i) m p q x g c = record { mode = m; mark = refl; gap = g; related = x }
-  place (w ∷ ws) (suc i) m p q x g c =
+  place ws zero m p q x g b c = record { mode = m; mark = refl; gap = g; related = x }
+  place [] (suc i) m p q x g b c = record { mode = m; mark = refl; gap = g; related = x }
+  place (w ∷ ws) (suc i) m p q x g b c =
       let n = c .unasked 0 (omega arith) in
       let n′ = c .unasked 1 (omega arith) in
       let l = c .held 0 (omega arith) in
-      let y = turn p q w (map classOf ws) n n′ m (classOf w) refl x g l in
+      let o = U .bound-names (p .state) b l in
+      let y = turn p q w (map classOf ws) n n′ m (classOf w) refl x g l o in
       let next = pick (y .is-kept) (after M q w) q in
-      let z = place ws i (y .mode) (after M p w) next (y .related) (y .gap) (onward M h (p .state) w ws i c) in
+      let b′ = U .bound-word (p .state) w b l in
+      let z = place ws i (y .mode) (after M p w) next (y .related) (y .gap) b′ (onward M (p .state) w ws i c) in
       rw (y .mark) (earlier (y .is-kept) (marks h (ours (y .mode)) (map classOf ws)) w ws p q i z)
 
   -- ---- a kept word
@@ -341,15 +345,17 @@ module _ (M : Machine) (h : ℕ) (U : Unwinding M h) where
 
   -- ---- a whole list
 
-  module _ (s : M .State) (A : List ℕ) (v : M .waiting s) (g : spaced false (map classOf A) ≡ true) (i : ℕ) where
-    spot : Compared M h s A i → Spot (keeps h A) A (begins M s) (begins M s) i
+  module _ (s : M .State) (A : List ℕ) (v : M .waiting s) (o : M .holder s ≡ h)
+      (g : spaced false (map classOf A) ≡ true) (i : ℕ) where
+    spot : Compared M s A i → Spot (keeps h A) A (begins M s) (begins M s) i
     unfolding keeps Related
     spot c =
         let x : Rests M (begins M s) = record { waits = v; released = refl } in
-        place A i between (begins M s) (begins M s) record { rests = x; kept-rests = x; same = refl } g c
+        let y : Between (begins M s) (begins M s) = record { rests = x; kept-rests = x; same = refl } in
+        place A i between (begins M s) (begins M s) y g (U .bound-waiting s v o) c
 
     -- behind i words of the list it is kept as its kept words alone would leave it
-    list-keep : Compared M h s A i
+    list-keep : Compared M s A i
         → U .keep (run M s (take i A)) ≡ U .keep (keptTo M h s A (count (take i (keeps h A))) .state)
     unfolding kept
     list-keep c =
@@ -357,12 +363,12 @@ module _ (M : Machine) (h : ℕ) (U : Unwinding M h) where
         ap (U .keep) (sym (goes-state M (begins M s) (take i A))) ∙ related-keep (z .mode) _ _ _ (z .related)
 
     -- a kept word is answered as among the kept words alone, and in its slot is driven what is driven there
-    list-told : Compared M h s A (suc i) → getD (keeps h A) i false ≡ true
+    list-told : Compared M s A (suc i) → getD (keeps h A) i false ≡ true
         → Told M (classOf (getD A i 0)) (getD A i 0) (getD (answers M s A) i 0) (goes M (begins M s) (take i A))
         (keptTo M h s A (count (take i (keeps h A))))
     unfolding kept
     list-told c k =
-        let z = spot (shorter M h s A (suc i) i (omega arith) c) in
+        let z = spot (shorter M s A (suc i) i (omega arith) c) in
         let e = goes-state M (begins M s) (take i A) in
         let n = ap (M .requesting) e ∙ c .unasked i (omega arith) in
         let k′ = first-behind i (keeps h A) false ∙ k in
@@ -374,11 +380,11 @@ module _ (M : Machine) (h : ℕ) (U : Unwinding M h) where
 module _ (M : Machine) (h : ℕ) (U : Unwinding M h) (s : M .State) (A B : List ℕ) (given : Given M h s A B)
     (i j : ℕ) where
   -- behind equally many kept words the states are seen alike
-  states-alike : Behind h A B i j → Compared M h s A i → Compared M h s B j
+  states-alike : Behind h A B i j → Compared M s A i → Compared M s B j
       → M .observed (run M s (take i A)) ≡ M .observed (run M s (take j B))
   states-alike n a b =
-      let x = list-keep M h U s A (given .waits) (given .spaced-first) i a in
-      let y = list-keep M h U s B (given .waits) (given .spaced-second) j b in
+      let x = list-keep M h U s A (given .waits) (given .names) (given .spaced-first) i a in
+      let y = list-keep M h U s B (given .waits) (given .names) (given .spaced-second) j b in
       U .sees (run M s (take i A)) (run M s (take j B)) (cc (x, y, n, given .same))
 
   -- at like places stands one word
@@ -389,22 +395,22 @@ module _ (M : Machine) (h : ℕ) (U : Unwinding M h) (s : M .State) (A B : List 
       let z = marked-at (keeps h B) B j (x .second) in
       cc (y, z, x .behind, given .same)
 
-  module _ (x : Places h A B i j) (a : Compared M h s A (suc i)) (b : Compared M h s B (suc j)) where
+  module _ (x : Places h A B i j) (a : Compared M s A (suc i)) (b : Compared M s B (suc j)) where
     -- its answers are alike
     replies-alike : shown (classOf (getD A i 0)) (getD (answers M s A) i 0)
         ≡ shown (classOf (getD B j 0)) (getD (answers M s B) j 0)
     replies-alike =
-        let y = list-told M h U s A (given .waits) (given .spaced-first) i a (x .first) in
-        let z = list-told M h U s B (given .waits) (given .spaced-second) j b (x .second) in
+        let y = list-told M h U s A (given .waits) (given .names) (given .spaced-first) i a (x .first) in
+        let z = list-told M h U s B (given .waits) (given .names) (given .spaced-second) j b (x .second) in
         cc (y .reply, z .reply, words-alike x, x .behind, given .same)
 
     -- and, of a slot, what is driven in it
     slots-alike : (classOf (getD A i 0) ≡ host → ⊥)
         → driven driveReleased (take i (answers M s A)) ≡ driven driveReleased (take j (answers M s B))
     slots-alike n =
-        let y = list-told M h U s A (given .waits) (given .spaced-first) i a (x .first) .drives n in
+        let y = list-told M h U s A (given .waits) (given .names) (given .spaced-first) i a (x .first) .drives n in
         let n′ = rw (words-alike x) at n in
-        let z = list-told M h U s B (given .waits) (given .spaced-second) j b (x .second) .drives n′ in
+        let z = list-told M h U s B (given .waits) (given .names) (given .spaced-second) j b (x .second) .drives n′ in
         let d = goes-drive M (begins M s) A i in
         let e = goes-drive M (begins M s) B j in
         cc (y, z, d, e, x .behind, given .same)

@@ -20,7 +20,9 @@ pub record Machine : Type 1 where
   pub Observed : Type 0
   pub observed : State → Observed
   pub waiting : State → Type 0
-  pub lockedTo : ℕ → State → Type 0
+  -- the lock, and the master that it names
+  pub locked : State → Bool
+  pub holder : State → ℕ
   -- "a master request stands while MARQ is set"
   pub requesting : State → Bool
 
@@ -64,16 +66,18 @@ module _ (M : Machine) where
   answers s [] = []
   answers s (w ∷ ws) = M .answer s w ∷ answers (M .step s w) ws
 
-  -- how far the comparison goes, i words: "until the lock ends", up to and with the word that ends it, and "no master
-  -- request standing then or accepted later"
-  pub record Compared (h : ℕ) (s : M .State) (A : List ℕ) (i : ℕ) : Type 0 where
-    pub held : (k : ℕ) → k < i → M .lockedTo h (run s (take k A))
+  -- how far the comparison goes, i words: "until the lock ends", and "up to and with that word", so the unit is locked
+  -- before each of them, to whomever; and "no master request standing then or accepted later"
+  pub record Compared (s : M .State) (A : List ℕ) (i : ℕ) : Type 0 where
+    pub held : (k : ℕ) → k < i → M .locked (run s (take k A)) ≡ true
     pub unasked : (k : ℕ) → k ≤ i → M .requesting (run s (take k A)) ≡ false
 
-  -- "Both begin in one state, waiting for a start .. with an idle slot between any two starts"; "the words kept are
-  -- one and the same list". That the unit is locked, and asks for nothing, is in `Compared`
+  -- "Both begin in one state, waiting for a start .. with an idle slot between any two starts"; "The holder is the
+  -- master that the lock names at the beginning"; "the words kept are one and the same list". That the unit is locked,
+  -- and asks for nothing, is in `Compared`
   pub record Given (h : ℕ) (s : M .State) (A B : List ℕ) : Type 0 where
     pub waits : M .waiting s
+    pub names : M .holder s ≡ h
     pub spaced-first : spaced false (map classOf A) ≡ true
     pub spaced-second : spaced false (map classOf B) ≡ true
     pub same : kept h A ≡ kept h B
@@ -81,13 +85,13 @@ module _ (M : Machine) where
   -- "the two runs are alike in every slot driven in the holder's frames, in every answer to those words .. and ..
   -- in the buffers, the lock and the return codes"
   pub record Alike (h : ℕ) (s : M .State) (A B : List ℕ) : Type 0 where
-    pub states : (i j : ℕ) → Behind h A B i j → Compared h s A i → Compared h s B j
+    pub states : (i j : ℕ) → Behind h A B i j → Compared s A i → Compared s B j
         → M .observed (run s (take i A)) ≡ M .observed (run s (take j B))
     pub words : (i j : ℕ) → Places h A B i j → getD A i 0 ≡ getD B j 0
-    pub replies : (i j : ℕ) → Places h A B i j → Compared h s A (suc i) → Compared h s B (suc j)
+    pub replies : (i j : ℕ) → Places h A B i j → Compared s A (suc i) → Compared s B (suc j)
         → shown (classOf (getD A i 0)) (getD (answers s A) i 0)
         ≡ shown (classOf (getD B j 0)) (getD (answers s B) j 0)
-    pub slots : (i j : ℕ) → Places h A B i j → Compared h s A (suc i) → Compared h s B (suc j)
+    pub slots : (i j : ℕ) → Places h A B i j → Compared s A (suc i) → Compared s B (suc j)
         → (classOf (getD A i 0) ≡ host → ⊥)
         → driven driveReleased (take i (answers s A)) ≡ driven driveReleased (take j (answers s B))
 

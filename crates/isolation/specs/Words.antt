@@ -25,11 +25,14 @@ spells h zero x bs = eqb h x
 spells h (suc n) x [] = false
 spells h (suc n) x (b ∷ bs) = spells h n (x * 2 + bitOf b) bs
 
--- "The first level is the broadcast bit, the next 12 are the master address; with fewer it is cut short": the
--- frame, from the words that follow its start slot, is h's. "Its frames are those with its address, parity right or
--- wrong"
+-- "The first level is the broadcast bit, the next 12 are the master address; with fewer it is cut short": a frame with
+-- these levels is h's. "Its frames are those with its address, parity right or wrong"
+unfoldable pub fromMaster : ℕ → List Bool → Bool
+fromMaster h bs = spells h 12 0 (drop 1 bs)
+
+-- the same, from the words that follow its start slot
 unfoldable pub framed : ℕ → List Class → Bool
-framed h ws = spells h 12 0 (drop 1 (levels ws))
+framed h ws = fromMaster h (levels ws)
 
 -- which words are kept: "host words are all words of another kind than 0"; of kind 0 those in h's frames, the idle
 -- slot that closes one among them. `mine` says that a frame of h's is open at the beginning

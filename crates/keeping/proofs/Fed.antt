@@ -215,7 +215,7 @@ module _ {h : ℕ} {kept : List ℕ} {A B : List ℕ} (given : Given unit h (dec
   pub kept-alike : {words words′ said said′ kept′ kept″ : List ℕ} (i j : ℕ)
       → wordsOf words ≡ take i A → wordsOf words′ ≡ take j B
       → Fed kept words said kept′ → Fed kept words′ said′ kept″ → Behind h A B i j
-      → Compared unit h (decode kept) A i → Compared unit h (decode kept) B j
+      → Compared unit (decode kept) A i → Compared unit (decode kept) B j
       → observed (decode kept′) ≡ observed (decode kept″)
   unfolding Protected
   kept-alike i j e e′ first second behind c c′ =

@@ -43,9 +43,9 @@ kept-within h A i e =
 
 -- the claim of `Alike` about answers, of the lists `out` and `out′` that hold them
 pub record AlikeIn (h : ℕ) (s : State) (A B out out′ : List ℕ) : Type 0 where
-  pub replies : (i j : ℕ) → Places h A B i j → Compared unit h s A (suc i) → Compared unit h s B (suc j)
+  pub replies : (i j : ℕ) → Places h A B i j → Compared unit s A (suc i) → Compared unit s B (suc j)
       → shown (classOf (getD A i 0)) (getD out i 0) ≡ shown (classOf (getD B j 0)) (getD out′ j 0)
-  pub slots : (i j : ℕ) → Places h A B i j → Compared unit h s A (suc i) → Compared unit h s B (suc j)
+  pub slots : (i j : ℕ) → Places h A B i j → Compared unit s A (suc i) → Compared unit s B (suc j)
       → (classOf (getD A i 0) ≡ host → ⊥) → driven driveReleased (take i out) ≡ driven driveReleased (take j out′)
 
 -- where `out` begins with the answers to the words, it has them at their places
@@ -83,7 +83,7 @@ module _ {h : ℕ} {s : State} {A B : List ℕ} (given : Given unit h s A B) whe
   -- the units that are left after i words of the one list and j of the other
   pub units-alike : {t t′ : State} {first first′ second second′ : List ℕ} (i j : ℕ)
       → Called s (take i A) first 0 t first′ → Called s (take j B) second 0 t′ second′ → Behind h A B i j
-      → Compared unit h s A i → Compared unit h s B j → observed t ≡ observed t′
+      → Compared unit s A i → Compared unit s B j → observed t ≡ observed t′
   unfolding Protected
   units-alike i j one two behind c c′ =
       ap observed (state-left one) ∙ one .protected h s A B given .states i j behind c c′

@@ -1,30 +1,73 @@
--- What an auditor asks next, said of the unit: nothing of a stranger's frame is seen in buffers, lock or codes, and the
--- lock goes on as long in both lists.
+-- What an auditor asks next, said of the unit: what is compared is all of buffers, lock and codes; nothing of a
+-- stranger's frame is seen in them; and the lock goes on as far in both lists.
 use mathlib.Core.Bool.{true, false}
-use mathlib.Core.Path.{_≡_, sym, ap, _∙_}
+use mathlib.Core.Path.{_≡_, ap}
 use mathlib.Core.List.{List, map}
-use Prim.Native.Nat.{ℕ, suc}
+use Prim.Native.Nat.{ℕ, suc, _≤_}
 use lib.ListN.{take, getD}
 use Rattle.line.specs.Slot.{classOf}
 use Rattle.isolation.specs.Words.{keeps, spaced}
-use Rattle.isolation.specs.Runs.{Compared, Given, Places, run}
-use Rattle.isolation.proofs.Ends.{ends-alike, struck-unseen}
+use Rattle.isolation.specs.Runs.{Behind, Compared, Given, Places, run}
+use Rattle.isolation.proofs.Ends.{as-far, ends-alike, struck-unseen}
 use Rattle.rules.specs.State.{State}
-use Rattle.rules.specs.Machine.{Observed, lockedBy, observed, unit, waiting}
+use Rattle.rules.specs.Machine.{Observed, observed, unit, waiting}
 use Rattle.rules.proofs.Protects.{holds}
 
+-- ---- what is compared
+
+-- "the buffers, the lock and the return codes" of two states, each for itself
+pub record SameSeen (s t : State) : Type 0 where
+  pub tbf : s .tbf ≡ t .tbf
+  pub rbf : s .rbf ≡ t .rbf
+  pub locked : s .core .regs .locked ≡ t .core .regs .locked
+  pub holder : s .core .regs .holder ≡ t .core .regs .holder
+  pub marc : s .core .regs .marc ≡ t .core .regs .marc
+  pub slrc : s .core .regs .slrc ≡ t .core .regs .slrc
+
+-- states that are observed alike have all of these alike
+pub observed-all : (s t : State) → observed s ≡ observed t → SameSeen s t
+observed-all s t e =
+    record {
+      tbf = ap (λ (o : Observed). o .tbf) e;
+      rbf = ap (λ (o : Observed). o .rbf) e;
+      locked = ap (λ (o : Observed). o .locked) e;
+      holder = ap (λ (o : Observed). o .holder) e;
+      marc = ap (λ (o : Observed). o .marc) e;
+      slrc = ap (λ (o : Observed). o .slrc) e;
+    }
+
+-- and nothing else is observed
+pub observed-only : (s t : State) → SameSeen s t → observed s ≡ observed t
+observed-only s t e =
+    λ i. record {
+      tbf = e .tbf i;
+      rbf = e .rbf i;
+      locked = e .locked i;
+      holder = e .holder i;
+      marc = e .marc i;
+      slrc = e .slrc i;
+    }
+
+-- ---- a stranger's words, and the lock
+
 -- no word of kind 0 outside the holder's frames puts a byte into RBF, takes one from TBF, or changes the lock or a code
-pub stranger-unseen : (h : ℕ) (s : State) (A : List ℕ) → waiting s → spaced false (map classOf A) ≡ true → (i : ℕ)
-    → Compared unit h s A (suc i) → getD (keeps h A) i false ≡ false
+pub stranger-unseen : (h : ℕ) (s : State) (A : List ℕ) → waiting s → s .core .regs .holder ≡ h
+    → spaced false (map classOf A) ≡ true → (i : ℕ) → Compared unit s A (suc i) → getD (keeps h A) i false ≡ false
     → observed (run unit s (take i A)) ≡ observed (run unit s (take (suc i) A))
 stranger-unseen h s A = struck-unseen unit holds h s A
 
--- what is observed tells whom the lock names
-tells : (h : ℕ) (s t : State) → observed s ≡ observed t → lockedBy h s → lockedBy h t
-tells h s t e l = (sym (ap (λ (o : Observed). o .locked) e) ∙ l .0, sym (ap (λ (o : Observed). o .holder) e) ∙ l .1)
+module _ (h : ℕ) (s : State) (A B : List ℕ) (given : Given unit h s A B) (i j : ℕ) (a : Compared unit s A (suc i)) where
+  locks : (t u : State) → observed t ≡ observed u → t .core .regs .locked ≡ u .core .regs .locked
+  locks t u e = observed-all t u e .locked
 
--- the lock that outlives a word of the one list outlives it in the other
-pub lock-alike : (h : ℕ) (s : State) (A B : List ℕ) → Given unit h s A B → (i j : ℕ) → Compared unit h s A (suc i)
-    → Compared unit h s B (suc j) → Places h A B i j → lockedBy h (run unit s (take (suc i) A))
-    → lockedBy h (run unit s (take (suc j) B))
-lock-alike h s A B given i j a b x l = ends-alike unit holds h s A B given i j a (tells h) x b l
+  -- the lock that outlives a word of the one list outlives it in the other
+  pub lock-alike : Compared unit s B (suc j) → Places h A B i j
+      → run unit s (take (suc i) A) .core .regs .locked ≡ true
+      → run unit s (take (suc j) B) .core .regs .locked ≡ true
+  lock-alike b x l = ends-alike unit holds h s A B given i j a locks x b l
+
+  -- behind equally many kept words the comparison has gone as far in the second list as in the first: the lock alone
+  -- never cuts it short there, only a master request does
+  pub lock-as-far : Behind h A B i j
+      → ((k : ℕ) → k ≤ suc j → run unit s (take k B) .core .regs .marq ≡ false) → Compared unit s B (suc j)
+  lock-as-far n u = as-far unit holds h s A B given i j a locks n u

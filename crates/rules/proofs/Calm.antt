@@ -6,7 +6,6 @@ use mathlib.Core.List.{List}
 use Prim.Native.Nat.{ℕ, _-_, _^_, _≤_, _<_}
 use borrow.Author.Tests.{eqb-true}
 use lib.Dec.{T, eqb}
-use lib.ListN.{drop}
 use Rattle.line.specs.Choice.{pick}
 use Rattle.line.proofs.Either.{either}
 use Rattle.place.specs.Set.{frame·control}
@@ -16,7 +15,7 @@ use Rattle.place.specs.declared.Field.the-variants.{Broadcast, Master, Slave, C
 use Rattle.place.specs.declared.Frame.{Frame}
 use Rattle.place.specs.declared.Place.{Place}
 use Rattle.place.specs.declared.Place.the-variants.{Waiting, In}
-use Rattle.isolation.specs.Words.{spells}
+use Rattle.isolation.specs.Words.{fromMaster, spells}
 use Rattle.rules.specs.Endings.{acted, draws, ties, lockAfter, partEnded, dataEnded, lengthEnded, endedOf}
 use Rattle.rules.specs.Endings.{frees, requestEnded, slaveEnded}
 use Rattle.rules.specs.Set.{core·regs}
@@ -45,7 +44,7 @@ pub record Harmless (f : Frame) : Type 0 where
 -- at each place, a frame of another's than h, of which the levels bs are still to come
 abbrev pub CalmAt : ℕ → Place → Frame → List Bool → Type 0
 CalmAt h Waiting f bs = Unit {0}
-CalmAt h (In Broadcast n) f bs = (f .leads ≡ false) × (spells h 12 0 (drop 1 bs) ≡ false)
+CalmAt h (In Broadcast n) f bs = (f .leads ≡ false) × (fromMaster h bs ≡ false)
 CalmAt h (In Master n) f bs =
     (f .leads ≡ false) × (n ≤ 12) × (f .shift < 2 ^ n) × (spells h (12 - n) (f .shift) bs ≡ false)
 CalmAt h (In Slave n) f bs = (f .leads ≡ false) × (eqb h (f .master) ≡ false)

@@ -2,8 +2,8 @@
 pub mod Answers
 pub mod Calm
 pub mod Strangers
+pub mod Locks
 pub mod Protects
 pub mod Ruled
-pub mod Locks
 pub mod Example
 pub mod Asked

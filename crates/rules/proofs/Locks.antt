@@ -1,4 +1,4 @@
--- While a unit is locked, no word makes it locked to another than the holder.
+-- While a unit is locked, no word makes it locked to another than the holder: demand 3 rests on it.
 use mathlib.Core.Bool.{Bool, true, false, not, _&&_, _||_, Bool·beq}
 use mathlib.Core.Logic.{_⊎_, inl, inr, ⊎-elim}
 use mathlib.Core.Path.{_≡_, refl, sym, ap, ap₂, _∙_, subst}
@@ -403,42 +403,41 @@ module _ (h : ℕ) (c : Core) (seen : Seen) (g : Good h c) where
 
 -- ---- any word
 
--- a state locked to h, in a frame that it may be in
+-- a state whose lock, if it is locked, names h, in a frame that it may be in
 pub record Bonded (h : ℕ) (s : State) : Type 0 where
-  pub locked : s .core .regs .locked ≡ true
-  pub holder : s .core .regs .holder ≡ h
-  pub tied : Tied h (s .core .frame)
-
--- what a word leaves: where still locked, locked to h, and in a frame that it may be in
-pub record StillBonded (h : ℕ) (s : State) : Type 0 where
   pub fast : s .core .regs .locked ≡ true → s .core .regs .holder ≡ h
   pub tied : Tied h (s .core .frame)
 
-module _ (h : ℕ) (s : State) (bond : Bonded h s) where
-  good : Good h (s .core)
-  good = record { holder = bond .holder; tied = bond .tied }
+-- one that waits is in no frame
+pub waiting-bonded : (h : ℕ) (s : State) → waiting s → s .core .regs .holder ≡ h → Bonded h s
+unfolding Tied
+waiting-bonded h s w o =
+    record { fast = λ l. o; tied = subst (λ (p : Place). TiedAt h p (s .core .frame)) (sym w) tt }
 
-  acted-bonded : (a : Acted) → Ok h a → StillBonded h (actedOn s a)
+module _ (h : ℕ) (s : State) (bond : Bonded h s) (locked : s .core .regs .locked ≡ true) where
+  named : s .core .regs .holder ≡ h
+  named = bond .fast locked
+
+  acted-bonded : (a : Acted) → Ok h a → Bonded h (actedOn s a)
   acted-bonded a ok = record { fast = ok .fast; tied = ok .tied }
 
   level-ok : (b : Bool) → Ok h (onLevel (s .core) b (seenOf (s .tbf) (s .rbf)))
   unfolding onLevel step.levelOf Leaves Tied
   level-ok b =
       let seen = seenOf (s .tbf) (s .rbf) in
-      on-place h (core·idle false (s .core)) seen (record { holder = bond .holder; tied = bond .tied })
-      (viewOf (s .core .regs) (seen .clear)) (bond .locked) (bond .holder) (s .core .frame)
-      (s .core .frame .spot .place) b refl (bond .tied)
+      on-place h (core·idle false (s .core)) seen (record { holder = named; tied = bond .tied })
+      (viewOf (s .core .regs) (seen .clear)) locked named (s .core .frame) (s .core .frame .spot .place) b refl
+      (bond .tied)
 
-  slot-bonded : (k : Slot) → StillBonded h (slotOn s k)
+  slot-bonded : (k : Slot) → Bonded h (slotOn s k)
   unfolding slotOn onStart begun onIdle begunOf Tied
   slot-bonded (Level b) =
-      pick-ind (StillBonded h) (clashes s b) _ _ (λ t. record { fast = λ l. bond .holder; tied = bond .tied })
-      (λ t. acted-bonded _ (level-ok b))
-  slot-bonded Start = record { fast = cut-ok h (s .core) (bond .holder) (bond .tied) .fast; tied = tt }
+      pick-ind (Bonded h) (clashes s b) _ _ (λ t. bond) (λ t. acted-bonded _ (level-ok b))
+  slot-bonded Start = record { fast = cut-ok h (s .core) named (bond .tied) .fast; tied = tt }
   slot-bonded Idle =
-      let ok = cut-ok h (s .core) (bond .holder) (bond .tied) in
+      let ok = cut-ok h (s .core) named (bond .tied) in
       record { fast = ok .fast; tied = ok .tied }
-  slot-bonded Stray = record { fast = λ l. bond .holder; tied = bond .tied }
+  slot-bonded Stray = bond
 
 -- ---- host words leave the lock as it is, or reset all
 
@@ -495,45 +494,36 @@ told-lock r tbf rbf w =
     (λ x. tt))
     (λ u. tt))
 
-module _ (h : ℕ) (s : State) (bond : Bonded h s) where
-  told-bonded : (y : Told) → Tells (s .core .regs) y → StillBonded h (toldOn s y)
+module _ (h : ℕ) (s : State) (bond : Bonded h s) (locked : s .core .regs .locked ≡ true) where
+  told-bonded : (y : Told) → Tells (s .core .regs) y → Bonded h (toldOn s y)
   unfolding Tied
-  told-bonded (wrote r tbf) x = record { fast = λ l. x .holder ∙ bond .holder; tied = bond .tied }
+  told-bonded (wrote r tbf) x = record { fast = λ l. x .holder ∙ named h s bond locked; tied = bond .tied }
   told-bonded restarted x = record { fast = λ l. absurd (subst T (sym l) tt); tied = tt }
-  told-bonded (gave rbf v) x = record { fast = λ l. bond .holder; tied = bond .tied }
-  told-bonded (denied n) x = record { fast = λ l. bond .holder; tied = bond .tied }
+  told-bonded (gave rbf v) x = record { fast = bond .fast; tied = bond .tied }
+  told-bonded (denied n) x = bond
 
-  word-bonded : (w : ℕ) (k : Class) → StillBonded h (stepAs k s w)
-  word-bonded w (slot c) = slot-bonded h s bond c
+  word-bonded : (w : ℕ) (k : Class) → Bonded h (stepAs k s w)
+  word-bonded w (slot c) = slot-bonded h s bond locked c
   word-bonded w host = told-bonded (toldOf (s .core .regs) (s .tbf) (s .rbf) w)
       (told-lock (s .core .regs) (s .tbf) (s .rbf) w)
 
-  step-bonded : (w : ℕ) → StillBonded h (stepOf s w)
+  pub step-bonded : (w : ℕ) → Bonded h (stepOf s w)
   unfolding stepOf
   step-bonded w = word-bonded w (classOf w)
 
 -- ---- a list of words
 
 bonded-run : (h : ℕ) (A : List ℕ) (i : ℕ) (s : State) → Bonded h s
-    → ((k : ℕ) → k ≤ i → run unit s (take k A) .core .regs .locked ≡ true) → Bonded h (run unit s (take i A))
+    → ((k : ℕ) → k < i → run unit s (take k A) .core .regs .locked ≡ true) → Bonded h (run unit s (take i A))
 unfolding run
 bonded-run h A zero s bond l = bond
 bonded-run h [] (suc i) s bond l = bond
 bonded-run h (w ∷ A) (suc i) s bond l =
-    let next = step-bonded h s bond w in
-    let locked : stepOf s w .core .regs .locked ≡ true = l 1 (omega arith) in
-    bonded-run h A i (stepOf s w) (record { locked = locked; holder = next .fast locked; tied = next .tied })
-    (λ k m. l (suc k) (omega arith))
+    bonded-run h A i (stepOf s w) (step-bonded h s bond (l 0 (omega arith)) w) (λ k m. l (suc k) (omega arith))
 
 -- from a unit that waits for a start, locked to h: as long as it is locked, whatever the words, it is locked to h
 pub never-another : (h : ℕ) (s : State) (A : List ℕ) (i : ℕ) → waiting s → s .core .regs .holder ≡ h
     → ((k : ℕ) → k ≤ i → run unit s (take k A) .core .regs .locked ≡ true)
     → run unit s (take i A) .core .regs .holder ≡ h
-unfolding Tied run
 never-another h s A i w o l =
-    bonded-run h A i s (record {
-      locked = l 0 (omega arith);
-      holder = o;
-      tied = subst
-          (λ (p : Place). TiedAt h p (s .core .frame)) (sym w) tt;
-    }) l .holder
+    bonded-run h A i s (waiting-bonded h s w o) (λ k m. l k (omega arith)) .fast (l i (omega arith))

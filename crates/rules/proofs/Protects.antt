@@ -5,7 +5,6 @@ use mathlib.Core.Path.{_≡_, refl, sym, ap, ap₂, _∙_, subst}
 use mathlib.Core.List.{List, [], _∷_}
 use Prim.Native.Nat.{ℕ, _%_}
 use lib.Dec.{T, eqb}
-use lib.ListN.{drop}
 use Rattle.line.specs.Choice.{bitOf, _▹_}
 use Rattle.line.specs.Slot.{Class, slot, host, classOf}
 use Rattle.line.specs.declared.slot.Slot.the-variants.{Level, Start, Idle, Stray}
@@ -16,7 +15,7 @@ use Rattle.place.specs.Step as step
 use Rattle.place.specs.declared.Field.the-variants.{Broadcast, Master, Slave, Control, Length, Data}
 use Rattle.place.specs.declared.Place.{Place}
 use Rattle.place.specs.declared.Place.the-variants.{Waiting, In}
-use Rattle.isolation.specs.Words.{spells}
+use Rattle.isolation.specs.Words.{fromMaster}
 use Rattle.isolation.specs.Runs.{shown, latest, Protected}
 use Rattle.isolation.proofs.Unwind.{protected}
 use Rattle.isolation.proofs.Unwinding.{Unwinding}
@@ -29,7 +28,7 @@ use Rattle.rules.specs.Registers.{Told, wrote, restarted, gave, denied, 
 use Rattle.rules.specs.Step.{actedOn, answerOf, clashes, nextDrive, saidAs, slotOn, slotSaid, stepAs, stepOf}
 use Rattle.rules.specs.Step.{toldOn, toldSaid}
 use Rattle.rules.specs.Step.{wordOf}
-use Rattle.rules.specs.Machine.{unit, waiting}
+use Rattle.rules.specs.Machine.{observed, unit, waiting}
 use Rattle.rules.specs.declared.answer.Answer.{Answer}
 use Rattle.rules.specs.declared.answer.Answer.the-variants.{Given}
 use Rattle.rules.specs.declared.answer.Reply.the-variants.{Taken}
@@ -42,6 +41,7 @@ use Rattle.rules.specs.declared.state.Seen.{Seen}
 use Rattle.rules.proofs.Answers.{latest-taken, latest-written, latest-read, latest-refused, shown-written}
 use Rattle.rules.proofs.Answers.{shown-read}
 use Rattle.rules.proofs.Calm.{pick-ind, pick-no, CalmAt, Calm, calm-ended}
+use Rattle.rules.proofs.Locks.{Bonded, step-bonded, waiting-bonded}
 use Rattle.rules.proofs.Strangers.{on-level}
 
 -- what lasts: all of the state but the frame under way and the latest slot
@@ -293,7 +293,7 @@ start-word s t w r ws wt e q =
 module _ (h : ℕ) where
   calm-start-word : (s : State) (w : ℕ) (bs : List Bool) → classOf w ≡ slot Start → waiting s
       → s .core .regs .marq ≡ false
-      → spells h 12 0 (drop 1 bs) ≡ false → Calm h (stepOf s w .core .frame) bs × (lasting (stepOf s w) ≡ lasting s)
+      → fromMaster h bs ≡ false → Calm h (stepOf s w .core .frame) bs × (lasting (stepOf s w) ≡ lasting s)
   unfolding Calm begun begunOf
   calm-start-word s w bs r e q x = (
     subst (λ (t : State). Calm h (t .core .frame) bs) (sym (start-stepped s w r e))
@@ -338,18 +338,18 @@ module _ (h : ℕ) where
 
   calm-level-word : (s : State) (w : ℕ) (b : Bool) (bs : List Bool) → classOf w ≡ slot (Level b)
       → Calm h (s .core .frame) (b ∷ bs)
-      → (s .core .regs .locked ≡ true) × (s .core .regs .holder ≡ h)
+      → s .core .regs .locked ≡ true → s .core .regs .holder ≡ h
       → Calm h (stepOf s w .core .frame) bs × (lasting (stepOf s w) ≡ lasting s)
   unfolding slotOn onLevel
-  calm-level-word s w b bs r x l =
+  calm-level-word s w b bs r x l o =
       subst (λ (t : State). Calm h (t .core .frame) bs × (lasting t ≡ lasting s))
       (sym (stepped s w (slot (Level b)) r))
       (pick-ind (λ (t : State). Calm h (t .core .frame) bs × (lasting t ≡ lasting s)) (clashes s b) s _
       (λ e. (refused-calm s b bs e x, refl))
       (λ e.
       let seen = seenOf (s .tbf) (s .rbf) in
-      let y = on-level h (core·idle false (s .core)) seen b bs (viewOf (s .core .regs) (seen .clear)) (l .0)
-      (l .1) x in
+      let y = on-level h (core·idle false (s .core)) seen b bs (viewOf (s .core .regs) (seen .clear)) l o
+      x in
       (y .calm, after-same (onLevel (s .core) b seen) s (y .regs) (y .act))))
 
   calm-idle-word : (s : State) (w : ℕ) → classOf w ≡ slot Idle → Calm h (s .core .frame) []
@@ -373,28 +373,26 @@ module _ (h : ℕ) where
   -- ---- all conditions together
 
   pub unwinding : Unwinding unit h
+  unfolding begun
   unwinding =
       record {
         Kept = Lasting;
         keep = lasting;
-        sees = λ s t e. ap (λ (k : Lasting). record {
-          tbf = k .tbf;
-          rbf = k .rbf;
-          locked = k .regs .locked;
-          holder = k .regs .holder;
-          marc = k .regs .marc;
-          slrc = k .regs .slrc;
-        }) e;
+        sees = λ s t e. ap (λ (k : Lasting). observed (begun k)) e;
         asks = λ s t e. ap (λ (k : Lasting). k .regs .marq) e;
         calm = λ s bs. Calm h (s .core .frame) bs;
+        bound = Bonded h;
+        bound-waiting = waiting-bonded h;
+        bound-word = λ s w bond l. step-bonded h s bond l w;
+        bound-names = λ s bond l. bond .fast l;
         on-stray = stray-word;
         on-idle = idle-word;
         wait-level = wait-level-word;
         wait-idle = wait-idle-word;
         wait-host = wait-host-word;
         calm-start = calm-start-word;
-        calm-level = λ s w b bs r x l q. calm-level-word s w b bs r x l;
-        calm-idle = λ s w r x l q. calm-idle-word s w r x;
+        calm-level = λ s w b bs r x l o q. calm-level-word s w b bs r x l o;
+        calm-idle = λ s w r x l o q. calm-idle-word s w r x;
         calm-host = calm-host-word;
         host-same = host-word;
         start-same = start-word;

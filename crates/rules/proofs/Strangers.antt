@@ -32,7 +32,7 @@ use Rattle.place.specs.declared.Moved.{Moved}
 use Rattle.place.specs.declared.Place.{Place}
 use Rattle.place.specs.declared.Place.the-variants.{Waiting, In}
 use Rattle.place.specs.declared.View.{View}
-use Rattle.isolation.specs.Words.{spells}
+use Rattle.isolation.specs.Words.{fromMaster, spells}
 use Rattle.rules.specs.Set.{core·frame}
 use Rattle.rules.specs.Endings.{acted, endedOf, leftOf}
 use Rattle.rules.specs.Slots.{onAddressed, onControlAcked, onLengthAcked, onByteAcked, lastAcked, onEvent}
@@ -137,7 +137,7 @@ shifted-lt n x b l m =
 
 module _ (h : ℕ) (c : Core) (seen : Seen) (b : Bool) (bs : List Bool) (n : ℕ) where
   on-broadcast : CalmAt h (In Broadcast n) (c .frame) (b ∷ bs) → Leaves h c seen bs (atBroadcast (c .frame) b)
-  unfolding atBroadcast toField Calm
+  unfolding atBroadcast toField Calm fromMaster spells
   on-broadcast x =
       quiet h c seen bs (toField (c .frame ▹ frame·broadcast (not b)) Master) (x .0, omega arith, omega arith, x .1)
 

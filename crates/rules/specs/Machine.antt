@@ -1,5 +1,5 @@
 -- The unit as a machine that takes words: what demand 3 is stated over.
-use mathlib.Core.Bool.{Bool, true}
+use mathlib.Core.Bool.{Bool}
 use mathlib.Core.Path.{_≡_}
 use mathlib.Core.List.{List}
 use Prim.Native.Nat.{ℕ}
@@ -31,9 +31,6 @@ observed s =
 abbrev pub waiting : State → Type 0
 waiting s = s .core .frame .spot .place ≡ Waiting
 
-abbrev pub lockedBy : ℕ → State → Type 0
-lockedBy h s = (s .core .regs .locked ≡ true) × (s .core .regs .holder ≡ h)
-
 abbrev pub unit : Machine
 unit =
     record {
@@ -43,6 +40,7 @@ unit =
       Observed = Observed;
       observed = observed;
       waiting = waiting;
-      lockedTo = lockedBy;
+      locked = λ s. s .core .regs .locked;
+      holder = λ s. s .core .regs .holder;
       requesting = λ s. s .core .regs .marq;
     }
