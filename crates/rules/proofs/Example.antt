@@ -86,12 +86,12 @@ secondBefore = read 0x8 ∷ 3 ∷ 3 ∷ readOut ++ 0x0FFF_FFFF ∷ 1 ∷ broken 
 
 pub first : List ℕ
 first =
-    firstBefore ++ halfRead ++ brokenOff 0x525 0xB ++ spoilt ++ 1 ∷ 1 ∷ readOut ++ turnedDown (0xA ∷ 0xB ∷ [])
+    firstBefore ++ halfRead ++ brokenOff 0x525 0x123 0xB ++ spoilt ++ 1 ∷ 1 ∷ readOut ++ turnedDown (0xA ∷ 0xB ∷ [])
     ++ completed
 
 pub second : List ℕ
 second =
-    secondBefore ++ halfRead ++ 3 ∷ brokenOff 0x525 0xB ++ 3 ∷ turnedDown (0xB ∷ []) ++ readOut ++ broadcast
+    secondBefore ++ halfRead ++ 3 ∷ brokenOff 0x525 0x123 0xB ++ 3 ∷ turnedDown (0xB ∷ []) ++ readOut ++ broadcast
     ++ completed
 
 -- the unit that both begin with
