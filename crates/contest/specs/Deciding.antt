@@ -8,8 +8,8 @@ use lib.ListN.{length, drop, getD}
 use Rattle.line.specs.Choice.{pick}
 use Rattle.line.specs.Parity.{levelOf}
 use Rattle.line.specs.Numbers.{contestSlots, lastContestSlot}
-use Rattle.contest.specs.Contest.{nobody, firstOut, firstTwin, numberOf}
-use Rattle.contest.specs.declared.contenders.Contender.{Contender}
+use Rattle.contenders.specs.Contest.{nobody, firstOut, firstTwin, numberOf}
+use Rattle.contenders.specs.declared.Contender.{Contender}
 
 -- the first of the last n slots in which x and w differ, 0 where they differ in none
 unfoldable pub differs : ℕ → ℕ → ℕ → ℕ

@@ -1,4 +1,2 @@
--- The definitions that a reader has to believe, then what private functions cite, and the marked cases.
-pub mod Contest
+-- How the code decides a contest, which private functions cite. What a contest comes to is in `contenders`.
 pub mod Deciding
-pub mod Cases

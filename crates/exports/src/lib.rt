@@ -1,11 +1,11 @@
 // What a host in C calls, and nothing else: each function hands on to a library below, whose contract it keeps. No
 // function has a `requires`, and nothing is assumed.
-ghost use Rattle.contest.specs.Contest.{ContestedWord, WonByWord, contendersOf};
+ghost use Rattle.contenders.specs.Contest.{ContestedWord, WonByWord, contendersOf};
 ghost use Rattle.lists.specs.Bytes.{CalledBytes};
 ghost use Rattle.rules.specs.State.{reset};
-ghost use Rattle.lasting.specs.Calls.{Ran, Reset};
-use contest::contenders::Contender;
-use contest::contenders::Contenders;
+ghost use Rattle.keeping.specs.Calls.{Ran, Reset};
+use contenders::Contender;
+use contenders::Contenders;
 use list_run::bytes::run_bytes;
 use records::gathered;
 use unit::step::Unit;
@@ -18,7 +18,7 @@ fn contest_word(all: Contenders, lost: &mut [u32]) -> u32
     ensures whole { λ r. ⌜ ContestedWord (contendersOf all) (now (lost .entry)) r (now (lost .exit)) ⌝ }
     ensures least { λ r. ⌜ WonByWord (contendersOf all) r ⌝ }
 {
-    let outcome = all.contest(lost);
+    let outcome = contest::contest(all, lost);
     let verdict = outcome.verdict();
     let number = verdict.number;
     let place = verdict.place;

@@ -1,5 +1,3 @@
--- The laws that the proofs of this library share, then what follows from its contracts alone.
+-- The laws that the proofs of this library share.
 pub mod Parts
-pub mod Again
 pub mod Taken
-pub mod Fed

@@ -3,7 +3,7 @@ use mathlib.Core.Bool.{Bool, true, false}
 use mathlib.Core.Path.{_≡_, refl, sym, ap, _∙_}
 use mathlib.Core.List.{List, [], _∷_, _++_, append-assoc, append-nil}
 use mathlib.Core.Logic.{⊎-elim}
-use Prim.Native.Nat.{ℕ, zero, suc, _+_, _-_, _≤_, _<_}
+use Prim.Native.Nat.{ℕ, zero, suc, _+_, _-_, _≤_, _<_, min}
 use native.Mathlib.Omega.{arith}
 use borrow.Author.Tests.{lt-ltb, le-ltb}
 use lib.ListN.{length, take, drop, getD, set, replicate, length-append, length-drop, length-replicate}
@@ -11,15 +11,22 @@ use lib.ListN.{drop-of-length-le}
 use lib.Dec.{ltb}
 use lib.Seq.{length-take-le, take-all, take-at, drop-at}
 use borrow.Rule.Slice.PartMut.{putMid}
-use Rattle.line.specs.Choice.{pick}
+use Rattle.line.specs.Choice.{bitOf, pick}
+use Rattle.line.specs.Numbers.{rbfBytes, tbfBytes}
 use Rattle.line.proofs.Either.{below-or-not}
 use Rattle.line.proofs.Filled.{Filled, nothing-filled, one-filled, all-filled}
 use Rattle.list_run.proofs.Underway.{cut}
 use Rattle.unit.proofs.Circle.{items-length}
 use Rattle.unit.specs.Queue.{circleOf, heldOf, items, startOf, wrap}
 use Rattle.unit.specs.declared.buffers.Span.{Span}
-use Rattle.lasting.specs.Decode.{bufferIn}
-use Rattle.lasting.specs.Encode.{bufferBytes}
+use Rattle.place.specs.declared.Frame.{Frame}
+use Rattle.rules.specs.State.{State}
+use Rattle.rules.specs.declared.state.Registers.{Registers}
+use Rattle.keeping.specs.Calls.{Keeps}
+use Rattle.keeping.specs.Decode.{bufferIn, decode}
+use Rattle.keeping.specs.Encode.{Fits, bufferBytes, encode, frameBytes, registerBytes}
+use Rattle.keeping.specs.Layout.{stateBytes}
+use Rattle.keeping.proofs.Again.{buffer-length, decoded}
 
 -- ---- a lent list that is written whole
 
@@ -75,8 +82,8 @@ zeros-none k e = rw e
 pub held-most : (n k : ℕ) → heldOf n k ≤ n
 held-most n k = ⊎-elim (λ h. rw (lt-ltb k n h) (omega arith)) (λ h. rw (le-ltb k n h) (omega arith)) (below-or-not k n)
 
-pub held-same : (n k : ℕ) → k ≤ n → heldOf n k ≡ k
-held-same n k l = ⊎-elim (λ h. rw (lt-ltb k n h)) (λ h. rw (le-ltb k n h) (omega arith)) (below-or-not k n)
+held-min : (n k : ℕ) → heldOf n k ≡ min n k
+held-min n k = ⊎-elim (λ h. rw (lt-ltb k n h) (omega arith)) (λ h. rw (le-ltb k n h) (omega arith)) (below-or-not k n)
 
 -- a circle is a list as far as it does not go past its last place
 pub straight : (n : ℕ) (bytes : List ℕ) → length bytes ≡ n → (k f : ℕ) → f + k ≤ n
@@ -97,11 +104,6 @@ circle-most n bytes span =
 
 -- ---- a buffer's bytes
 
-pub buffer-length : (room : ℕ) (l : List ℕ) → length l ≤ room → length (bufferBytes room l) ≡ room + 1
-unfolding bufferBytes
-buffer-length room l h =
-    omega (arith, length-append l (replicate (room - length l) 0), length-replicate {A = ℕ} (room - length l) 0)
-
 -- what a copy of all but the first byte holds, with a span that begins at place 0
 pub buffer-read : (n : ℕ) (l bytes : List ℕ) (span : Span) → bytes ≡ take (length l - 1) (drop 1 l)
     → length l ≡ n + 1 → span .first ≡ 0 → span .count ≡ getD l 0 0 → circleOf n bytes span ≡ bufferIn n l
@@ -112,7 +114,8 @@ buffer-read n l bytes span e size first count =
     let begins : startOf n (span .first) ≡ 0 = ap (startOf n) first ∙ pick-same (ltb 0 n) 0 in
     rw (begins, e, all, count)
     (straight n (drop 1 l) (omega (arith, length-drop 1 l)) (heldOf n (getD l 0 0)) 0
-    (omega (arith, held-most n (getD l 0 0))))
+    (omega (arith, held-most n (getD l 0 0)))
+    ∙ ap (λ (k : ℕ). take k (drop 1 l)) (held-min n (getD l 0 0)))
   where
     pick-same : (b : Bool) (x : ℕ) → pick b x x ≡ x
     pick-same true x = refl
@@ -160,3 +163,44 @@ circle-put room count k m (x ∷ xs) U Z bytes span size same held place begins 
 pub same-room : (n m : ℕ) (bytes : List ℕ) (span : Span) → n ≡ m
     → bufferBytes n (circleOf n bytes span) ≡ bufferBytes m (circleOf m bytes span)
 same-room n m bytes span e = ap (λ (k : ℕ). bufferBytes k (circleOf k bytes span)) e
+
+-- ---- the parts of a state, lent and given back one after the other
+
+put-parts : (t R F T B : List ℕ) → length t ≡ stateBytes → length R ≡ 22 → length F ≡ 22 → length T ≡ 34
+    → length B ≡ 41
+    → putMid 78 41 (putMid 44 34 (putMid 22 22 (R ++ drop 22 t) F) T) B ≡ R ++ (F ++ (T ++ B))
+put-parts t R F T B size r f l b =
+    let two : putMid 22 22 (R ++ drop 22 t) F ≡ (R ++ F) ++ drop 22 (drop 22 t) = placed R (drop 22 t) F 22 22 r f in
+    let n : length (R ++ F) ≡ 44 = omega (arith, length-append R F) in
+    let m : length ((R ++ F) ++ T) ≡ 78 = omega (arith, n, length-append (R ++ F) T) in
+    let d = drop 22 (drop 22 t) in
+    let gone : length (drop 34 d) ≤ 41
+    = omega (arith, length-drop 34 d, length-drop 22 (drop 22 t), length-drop 22 t) in
+    ap (λ (x : List ℕ). putMid 78 41 (putMid 44 34 x T) B) two
+    ∙ ap (λ (x : List ℕ). putMid 78 41 x B) (placed (R ++ F) d T 44 34 n l)
+    ∙ placed ((R ++ F) ++ T) (drop 34 d) B 78 41 m b
+    ∙ ap (λ (x : List ℕ). (((R ++ F) ++ T) ++ B) ++ x) (drop-of-length-le (drop 34 d) gone)
+    ∙ append-nil (((R ++ F) ++ T) ++ B) ∙ simp append-assoc
+
+registers-length : (r : Registers) → length (registerBytes r) ≡ 22
+unfolding registerBytes
+registers-length r = refl
+
+frame-length : (f : Frame) (idle : ℕ) → length (frameBytes f ++ idle ∷ []) ≡ 22
+unfolding frameBytes
+frame-length f idle = refl
+
+-- bytes over which the parts of a state were written keep it
+pub kept : (s : State) → Fits s → (t R F T B : List ℕ) → length t ≡ stateBytes → R ≡ registerBytes (s .core .regs)
+    → F ≡ frameBytes (s .core .frame) ++ bitOf (s .core .idle) ∷ [] → T ≡ bufferBytes tbfBytes (s .tbf)
+    → B ≡ bufferBytes rbfBytes (s .rbf)
+    → Keeps s (putMid 78 41 (putMid 44 34 (putMid 22 22 (R ++ drop 22 t) F) T) B)
+unfolding encode
+kept s fits t R F T B size r f l b =
+    let whole : putMid 78 41 (putMid 44 34 (putMid 22 22 (R ++ drop 22 t) F) T) B ≡ encode s
+    = put-parts t R F T B size (ap length r ∙ registers-length (s .core .regs))
+    (ap length f ∙ frame-length (s .core .frame) (bitOf (s .core .idle)))
+    (ap length l ∙ buffer-length tbfBytes (s .tbf) (fits .tbf))
+    (ap length b ∙ buffer-length rbfBytes (s .rbf) (fits .rbf))
+    ∙ rw (r, f, l, b) (simp append-assoc) in
+    record { spelled = whole; again = ap decode whole ∙ decoded s fits }

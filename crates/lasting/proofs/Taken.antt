@@ -9,10 +9,10 @@ use Rattle.rules.specs.State.{State}
 use Rattle.lists.specs.Bytes.{byteRefusal, bytesAfter, bytesOf, stateAfter, wordsOf}
 use Rattle.lists.specs.Rulings.{AllRuled}
 use Rattle.lists.proofs.Rulings.{spelled-ruled}
-use Rattle.lasting.specs.Layout.{stateBytes}
-use Rattle.lasting.specs.Calls.{Keeps, runAnswers, runBytes, runRefusal, runState, sizeRefusal}
-use Rattle.lasting.specs.Decode.{decode}
-use Rattle.lasting.specs.Encode.{encode}
+use Rattle.keeping.specs.Layout.{stateBytes}
+use Rattle.keeping.specs.Calls.{Keeps, runAnswers, runBytes, runRefusal, runState, sizeRefusal}
+use Rattle.keeping.specs.Decode.{decode}
+use Rattle.keeping.specs.Encode.{encode}
 
 -- the state and the answers of a run over bytes that is not refused
 ran-state : (s t : State) (words out : List ℕ) → byteRefusal words out ≡ 0 → s ≡ t

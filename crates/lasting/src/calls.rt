@@ -1,6 +1,6 @@
 // The calls of a host in C that keeps a unit: "A list may go over any number of list runs, each from the state that
 // the last one left."
-ghost use Rattle.lasting.specs.Calls.{Ran, Reset};
+ghost use Rattle.keeping.specs.Calls.{Ran, Reset};
 use crate::layout::STATE_BYTES;
 use crate::whole::put_unit;
 use crate::whole::unit_from;

@@ -1,5 +1,6 @@
-// Where the parts of a unit lie in the bytes that keep it, named once for the code. `specs/Layout.antt` has the table,
-// and names them for the definitions; a proof that uses a figure fails where the two differ.
+// Where the parts of a unit lie in the bytes that keep it, named once for the code. `Layout.antt` in
+// `crates/keeping/specs/` has the table, and names them for the definitions; a proof that uses a figure fails where the
+// two differ.
 pub(crate) const REGISTERS_END: usize = 22;
 
 pub(crate) const FRAME_END: usize = 44;

@@ -2,9 +2,9 @@
 ghost use mathlib.Core.Path.{_≡_};
 ghost use lib.ListN.{length};
 ghost use Rattle.unit.specs.Both.{stateOf};
-ghost use Rattle.lasting.specs.Calls.{Keeps};
-ghost use Rattle.lasting.specs.Decode.{decode};
-ghost use Rattle.lasting.specs.Layout.{stateBytes};
+ghost use Rattle.keeping.specs.Calls.{Keeps};
+ghost use Rattle.keeping.specs.Decode.{decode};
+ghost use Rattle.keeping.specs.Layout.{stateBytes};
 use crate::buffers::copy;
 use crate::buffers::put_rbf;
 use crate::buffers::put_tbf;

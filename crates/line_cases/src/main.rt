@@ -1,11 +1,10 @@
 // Runs the contest on the cases that document 01 names and on one of each refusal, and prints for each its number, the
 // place named and the first numbers of the list, which held 99 everywhere. Contenders go by value, and then as a lent
 // list of records.
-use contest::contenders::Contender;
-use contest::contenders::Contenders;
-use contest::contenders::Outcome;
+use contenders::Contender;
+use contenders::Contenders;
+use contenders::Outcome;
 use libc::STDOUT_FILENO;
-use records::contest;
 
 fn number(x: u64) {
     io::write_all(STDOUT_FILENO, b" ");
@@ -32,20 +31,20 @@ fn show(outcome: Outcome, lost: &[u32; 52]) {
 // The contest over a list of 52 numbers.
 fn run(contenders: Contenders) {
     let mut lost = [99u32; 52];
-    let outcome = contenders.contest(&mut lost);
+    let outcome = contest::contest(contenders, &mut lost);
     show(outcome, &lost);
 }
 
 // The contest over a list of one number only.
 fn run_short(contenders: Contenders) {
     let mut lost = [99u32; 52];
-    let outcome = contenders.contest(&mut lost[..1]);
+    let outcome = contest::contest(contenders, &mut lost[..1]);
     show(outcome, &lost);
 }
 
 // The contest over a list of records that is lent to it.
 fn lent(records: [Contender; 3], lost: &mut [u32]) -> Outcome {
-    contest(&records, lost)
+    records::contest(&records, lost)
 }
 
 fn run_lent(records: [Contender; 3]) {

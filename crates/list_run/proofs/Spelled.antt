@@ -1,12 +1,9 @@
 -- The run over bytes that is under way: words that bytes spell, and answers written four bytes at a time.
 use mathlib.Core.Path.{_≡_, refl, sym, ap, _∙_}
 use mathlib.Core.List.{List, [], _∷_, _++_}
-use mathlib.Core.Logic.{⊎-elim}
 use Prim.Native.Nat.{ℕ, _+_, _-_, _%_, _≤_, _<_}
 use native.Mathlib.Omega.{arith}
-use borrow.Author.Tests.{lt-ltb, eq-eqb, ne-eqb}
 use lib.ListN.{length, drop, getD, drop-of-length-le}
-use Rattle.line.proofs.Either.{below-or-not, same-or-not}
 use Rattle.line.proofs.Filled.{Filled, nothing-filled, one-filled, all-filled}
 use Rattle.isolation.specs.Runs.{run, answers}
 use Rattle.unit.specs.Both.{Runs, stateIn}
@@ -16,8 +13,8 @@ use Rattle.rules.specs.Step.{stepOf, answerOf, wordOf}
 use Rattle.unit.specs.declared.step.Answered.{Answered}
 use Rattle.unit.specs.declared.step.Lent.{Lent}
 use Rattle.list_run.specs.Run.{Whole}
-use Rattle.lists.specs.Bytes.{byteRefusal, bytesAfter, bytesOf, bytesOfWord, countRefusal}
-use Rattle.lists.specs.Bytes.{wordsOf}
+use Rattle.lists.specs.Bytes.{byteRefusal, bytesAfter, bytesOf, bytesOfWord, wordsOf}
+use Rattle.lists.proofs.Called.{taken-whole}
 use Rattle.list_run.specs.Run.{wordAt, wordPut}
 use Rattle.list_run.proofs.Underway.{cut, run-cons, run-nil, answers-cons, answers-nil, whole-after}
 
@@ -56,18 +53,6 @@ word-filled {whole} {first} {now} {rest} {at} w f room =
     let b = rw two at (one-filled _ a (omega (arith, a .long))) in
     let c = rw three at (one-filled _ b (omega (arith, b .long))) in
     rw four at (one-filled _ c (omega (arith, c .long)))
-
--- what a run that is not refused is given
-pub taken-whole : (words out : ℕ) → countRefusal words out ≡ 0 → (words % 4 ≡ 0) × (words ≤ out)
-unfolding countRefusal
-taken-whole words out e =
-    ⊎-elim
-    (λ even.
-    ⊎-elim
-    (λ short. absurd (let b : ⊥ = omega (arith, simp (eq-eqb _ _ even, lt-ltb _ _ short) at e) in b))
-    (λ room. (even, room)) (below-or-not out words))
-    (λ odd. absurd (let b : ⊥ = omega (arith, simp (ne-eqb _ _ odd) at e) in b))
-    (same-or-not (words % 4) 0)
 
 -- after the words in the first `at` bytes: the state is s, the answer bytes are `now`
 pub record Spelled (s₀ : State) (words first : List ℕ) (s : State) (now : List ℕ) (at : ℕ) : Type 0 where

@@ -1,10 +1,13 @@
 -- What a caller makes of the contracts of `run` and `iebus_run`, knowing nothing of the code.
 use mathlib.Core.Path.{_≡_, refl, ap, _∙_}
 use mathlib.Core.List.{List, [], _∷_, _++_, append-assoc}
-use Prim.Native.Nat.{ℕ, suc, _+_, _*_, _/_, _%_, _<_}
+use mathlib.Core.Logic.{⊎-elim}
+use Prim.Native.Nat.{ℕ, suc, _+_, _*_, _/_, _%_, _≤_, _<_}
 use native.Mathlib.Omega.{arith}
+use borrow.Author.Tests.{lt-ltb, eq-eqb, ne-eqb}
 use lib.ListN.{length, take, drop}
 use lib.Seq.{drop-at, take-at}
+use Rattle.line.proofs.Either.{below-or-not, same-or-not}
 use Rattle.isolation.specs.Runs.{run, answers}
 use Rattle.rules.specs.Machine.{unit}
 use Rattle.rules.specs.State.{State, reset}
@@ -14,7 +17,7 @@ use Rattle.rules.specs.declared.answer.Answer.the-variants.{Given, Refused}
 use Rattle.rules.specs.declared.answer.Reply.the-variants.{Taken, Written, Read}
 use Rattle.rules.specs.Step.{answerOf, stepOf, wordOf}
 use Rattle.lists.specs.Run.{Called, answersAfter, unitAfter}
-use Rattle.lists.specs.Bytes.{CalledBytes, bytesAfter, bytesOf, wordFrom, wordsOf}
+use Rattle.lists.specs.Bytes.{CalledBytes, bytesAfter, bytesOf, countRefusal, wordFrom, wordsOf}
 
 -- one answer for each word
 pub answers-length : (s : State) (words : List ℕ) → length (answers unit s words) ≡ length words
@@ -33,6 +36,18 @@ module _ {s t : State} {words before after : List ℕ} (call : Called s words be
       rw (call .written, ← call .ends) (take-at (answers unit s words) _ (length words) (answers-length s words))
 
 -- ---- the same over bytes
+
+-- what a run over bytes that is not refused is given
+pub taken-whole : (words out : ℕ) → countRefusal words out ≡ 0 → (words % 4 ≡ 0) × (words ≤ out)
+unfolding countRefusal
+taken-whole words out e =
+    ⊎-elim
+    (λ even.
+    ⊎-elim
+    (λ short. absurd (let b : ⊥ = omega (arith, simp (eq-eqb _ _ even, lt-ltb _ _ short) at e) in b))
+    (λ room. (even, room)) (below-or-not out words))
+    (λ odd. absurd (let b : ⊥ = omega (arith, simp (ne-eqb _ _ odd) at e) in b))
+    (same-or-not (words % 4) 0)
 
 -- an answer has 32 bits, and its four bytes spell it again
 answer-fits : (a : Answer) → wordOf a < 0x1_0000_0000

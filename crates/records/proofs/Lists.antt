@@ -12,16 +12,16 @@ use lib.Dec.{eqb, ltb}
 use lib.ListN.{length, take, getD, set, replicate}
 use Rattle.line.specs.Choice.{pick}
 use Rattle.line.specs.Numbers.{mostContenders}
-use Rattle.contest.specs.Contest.{nobody, firstOf, contendersOf, noContenders, firstTwin, verdictOf, contestOf}
-use Rattle.contest.specs.Contest.{numbersAfter, Contested, WonRightly}
+use Rattle.contenders.specs.Contest.{nobody, firstOf, contendersOf, noContenders, firstTwin, verdictOf, contestOf}
+use Rattle.contenders.specs.Contest.{numbersAfter, Contested, WonRightly}
 use Rattle.records.specs.Gathered.{withRecord, gatheredOf}
-use Rattle.contest.specs.declared.contenders.Contender.{Contender}
-use Rattle.contest.specs.declared.contenders.Contenders.{Contenders}
-use Rattle.contest.specs.declared.contenders.Outcome.{Outcome}
-use Rattle.contest.specs.declared.contenders.Verdict.{Verdict}
-use Rattle.contest.specs.declared.contenders.Outcome.the-variants.{ShortList, WrongCount}
+use Rattle.contenders.specs.declared.Contender.{Contender}
+use Rattle.contenders.specs.declared.Contenders.{Contenders}
+use Rattle.contenders.specs.declared.Outcome.{Outcome}
+use Rattle.contenders.specs.declared.Verdict.{Verdict}
+use Rattle.contenders.specs.declared.Outcome.the-variants.{ShortList, WrongCount}
 use Rattle.line.proofs.Either.{below-or-not}
-use Rattle.contest.proofs.contenders.Places.{length-firstOf, twin-found}
+use Rattle.contest.proofs.Places.{length-firstOf, twin-found}
 
 -- ---- the loop
 

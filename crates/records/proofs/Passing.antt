@@ -40,13 +40,13 @@ use denote.Triple.Clauses.{Clauses, Ended, closing, lasts}
 use denote.Triple.Entry.{Vals, onEntry}
 use denote.Triple.Spec.{Meets}
 use denote.Triple.Walked.{Stays, stay-dropped, gave-slice, walkOf, goes-dropped, goes-gave-slice, ends-at}
-use Rattle.contest.specs.Contest.{contendersOf}
+use Rattle.contenders.specs.Contest.{contendersOf}
 use Rattle.records.specs.Gathered.{gatheredOf}
-use Rattle.contest.specs.declared.contenders.Contender.{Contender}
-use Rattle.contest.specs.declared.contenders.Contenders.{Contenders}
-use Rattle.contest.proofs.contenders.Contender as T
-use Rattle.contest.proofs.contenders.Contenders as S
-use Rattle.contest.proofs.contenders.Contenders.Laws as S′
+use Rattle.contenders.specs.declared.Contender.{Contender}
+use Rattle.contenders.specs.declared.Contenders.{Contenders}
+use Rattle.contenders.proofs.Contender as T
+use Rattle.contenders.proofs.Contenders as S
+use Rattle.contenders.proofs.Contenders.Laws as S′
 use Rattle.records.proofs.gathered as gathered
 use Rattle.records.proofs.gathered.Symbol as gathered-def
 use Rattle.records.proofs.Walking.{Cited, asks, into, its, its-part, free, walk-to}

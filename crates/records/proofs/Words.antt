@@ -10,14 +10,14 @@ use borrow.Author.Tests.{eqb-false, ltb-true, ltb-false}
 use lib.Dec.{eqb, ltb}
 use lib.ListN.{length}
 use Rattle.line.specs.Choice.{pick}
-use Rattle.contest.specs.Contest.{contendersOf, firstOut, firstTwin, winnerOf, verdictOf, contestOf}
-use Rattle.contest.specs.Contest.{Twin, Contested, Wins, WonRightly}
-use Rattle.contest.specs.Contest.{verdictWord, ContestedWord, WonByWord}
+use Rattle.contenders.specs.Contest.{contendersOf, firstOut, firstTwin, winnerOf, verdictOf, contestOf}
+use Rattle.contenders.specs.Contest.{Twin, Contested, Wins, WonRightly}
+use Rattle.contenders.specs.Contest.{verdictWord, ContestedWord, WonByWord}
 use Rattle.records.specs.Gathered.{gatheredOf}
-use Rattle.contest.specs.declared.contenders.Contender.{Contender}
-use Rattle.contest.specs.declared.contenders.Outcome.{Outcome}
-use Rattle.contest.specs.declared.contenders.Verdict.{Verdict}
-use Rattle.contest.specs.declared.contenders.Outcome.the-variants.{Winner, ShortList, WrongCount, OutOfRange, Alike}
+use Rattle.contenders.specs.declared.Contender.{Contender}
+use Rattle.contenders.specs.declared.Outcome.{Outcome}
+use Rattle.contenders.specs.declared.Verdict.{Verdict}
+use Rattle.contenders.specs.declared.Outcome.the-variants.{Winner, ShortList, WrongCount, OutOfRange, Alike}
 use Rattle.line.proofs.Either.{below-or-not}
 use Rattle.records.proofs.Lists.{contest-listed, none-won, few-gathered}
 

@@ -3,9 +3,9 @@ use mathlib.Core.List.{List}
 use Prim.Native.Nat.{ℕ}
 use lib.ListN.{length, getD}
 use Rattle.line.specs.Numbers.{mostContenders}
-use Rattle.contest.specs.Contest.{nobody, firstOf, withContender}
-use Rattle.contest.specs.declared.contenders.Contender.{Contender}
-use Rattle.contest.specs.declared.contenders.Contenders.{Contenders}
+use Rattle.contenders.specs.Contest.{nobody, firstOf, withContender}
+use Rattle.contenders.specs.declared.Contender.{Contender}
+use Rattle.contenders.specs.declared.Contenders.{Contenders}
 
 -- a value with the record at a place of a list given
 abbrev pub withRecord : Contenders → List Contender → ℕ → Contenders

@@ -6,11 +6,11 @@ ghost use mathlib.Core.Path.{_≡_};
 ghost use Prim.Native.Nat.{_<_, min};
 ghost use lib.ListN.{length};
 ghost use Rattle.line.specs.Numbers.{mostContenders};
-ghost use Rattle.contest.specs.Contest.{Contested, WonRightly};
+ghost use Rattle.contenders.specs.Contest.{Contested, WonRightly};
 ghost use Rattle.records.specs.Gathered.{withRecord, gatheredOf};
-use contest::contenders::Contender;
-use contest::contenders::Contenders;
-use contest::contenders::Outcome;
+use contenders::Contender;
+use contenders::Contenders;
+use contenders::Outcome;
 use line::numbers::MOST_CONTENDERS;
 
 // How many records are read: number 13 needs none past the first 50.
@@ -52,5 +52,5 @@ pub fn contest(records: &[Contender], lost: &mut [u32]) -> Outcome
     ensures whole { λ r. ⌜ Contested (now (records .entry)) (now (lost .entry)) r (now (lost .exit)) ⌝ }
     ensures least { λ r. ⌜ WonRightly (now (records .entry)) r ⌝ }
 {
-    gathered(records).contest(lost)
+    contest::contest(gathered(records), lost)
 }

@@ -4,8 +4,8 @@ use mathlib.Core.Path.{_≡_, refl}
 use mathlib.Core.List.{List, [], _∷_, _++_}
 use lib.Count.{ones, onesIn}
 use Rattle.line.specs.Cases.{Case, _gives_, allGiven, lineCases}
-use Rattle.contest.specs.Cases.{contestCases}
-use Rattle.contest.specs.Contest.{numberOf, settled, remaining, lossOf, lossesOf, firstPlace}
+use Rattle.contenders.specs.Cases.{contestCases}
+use Rattle.contenders.specs.Contest.{numberOf, settled, remaining, lossOf, lossesOf, firstPlace}
 use Rattle.line.specs.Parity as parity
 use Rattle.line.specs.Slot.{slotOf, classOf}
 use Rattle.place.specs.Frame as frame

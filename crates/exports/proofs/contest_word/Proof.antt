@@ -1,7 +1,7 @@
 use mathlib.Core.Path.{ap}
 use native.Mathlib.Omega.{arith}
 use borrow.Author.Needs.{needs}
-use Rattle.contest.specs.Contest.{verdictWord}
+use Rattle.contenders.specs.Contest.{verdictWord}
 use Rattle.records.proofs.Words.{place-fits, contest-told, winner-told}
 use Rattle.exports.proofs.contest_word.Statement.{statement}
 use Rattle.exports.proofs.contest_word.Tie as tie

@@ -3,7 +3,7 @@ use contract.Running.{givenOf, tables, tablesOf}
 use mir.Syntax.{w32, tyInt}
 use denote.Builtin.{u32}
 use denote.Plain.{uint-lawful}
-use Rattle.contest.specs.Contest.{ContestedWord, WonByWord}
+use Rattle.contenders.specs.Contest.{ContestedWord, WonByWord}
 use Rattle.records.proofs.Words.{word-listed, winner-word-listed}
 use denote.Triple.Spec.{tripleOf}
 use denote.Triple.Table.{entered, cited}

@@ -46,13 +46,13 @@ use denote.Triple.Spec.{Meets, tripleOf}
 use denote.Triple.Statement.{Contract, Triple}
 use denote.Triple.Table.{entered, cited}
 use denote.Triple.Walked.{Stays, stay-dropped, gave-slice, walkOf, goes-dropped, goes-gave-slice, ends-at}
-use Rattle.contest.specs.Contest.{Contested, WonRightly}
-use Rattle.contest.specs.declared.contenders.Contender.{Contender}
-use Rattle.contest.specs.declared.contenders.Outcome.{Outcome}
-use Rattle.contest.proofs.contenders.Contender as R
-use Rattle.contest.proofs.contenders.Contender.Laws as R′
-use Rattle.contest.proofs.contenders.Outcome as O
-use Rattle.contest.proofs.contenders.Outcome.Laws as O′
+use Rattle.contenders.specs.Contest.{Contested, WonRightly}
+use Rattle.contenders.specs.declared.Contender.{Contender}
+use Rattle.contenders.specs.declared.Outcome.{Outcome}
+use Rattle.contenders.proofs.Contender as R
+use Rattle.contenders.proofs.Contender.Laws as R′
+use Rattle.contenders.proofs.Outcome as O
+use Rattle.contenders.proofs.Outcome.Laws as O′
 use Rattle.records.proofs.contest as contest
 use Rattle.records.proofs.contest.Symbol as contest-def
 use Rattle.records.proofs.contest.Met as contest-thm

@@ -1,14 +1,14 @@
 -- `contest`: the walk of Passing.antt to the core's contest.
 use contract.Running.{givenOf, tables, tablesOf}
 use denote.Enum.Laws as EL
-use Rattle.contest.specs.Contest.{Contested, WonRightly}
-use Rattle.contest.proofs.contenders.Outcome as O
-use Rattle.contest.proofs.contenders.Outcome.Laws as O′
+use Rattle.contenders.specs.Contest.{Contested, WonRightly}
+use Rattle.contenders.proofs.Outcome as O
+use Rattle.contenders.proofs.Outcome.Laws as O′
 use Rattle.records.proofs.Lists.{contest-listed, winner-listed}
 use denote.Triple.Spec.{tripleOf}
 use denote.Triple.Table.{entered, cited}
-use Rattle.contest.proofs.contenders.Contenders.contest.Symbol as core-def
-use Rattle.contest.proofs.contenders.Contenders.contest.Met as core-thm
+use Rattle.contest.proofs.contest.Symbol as core-def
+use Rattle.contest.proofs.contest.Met as core-thm
 use Rattle.records.proofs.gathered.Symbol as gathered-def
 use Rattle.records.proofs.gathered.Met as gathered-thm
 use Rattle.records.proofs.Passing.{Gathered, Core, meets}
@@ -30,4 +30,4 @@ contest-spec 𝓤 H 𝓜 𝓖 𝓡 =
     (cited 𝓤 H (Gathered 𝓤 H (𝓖 .A) (𝓜 .mem) (𝓡 .run)) 𝓜 𝓡 code.env gathered-def.name gathered-def.routine
     code.calls-records·gathered (gathered-thm.met 𝓤 H 𝓜 𝓖 𝓡))
     (cited 𝓤 H (Core O.the-row Contested WonRightly 𝓤 H (𝓖 .A)) 𝓜 𝓡 code.env core-def.name core-def.routine
-    code.calls-contest·contenders·Contenders·contest (core-thm.met 𝓤 H 𝓜 𝓖 𝓡)))
+    code.calls-contest·contest (core-thm.met 𝓤 H 𝓜 𝓖 𝓡)))

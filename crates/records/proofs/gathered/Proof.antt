@@ -43,18 +43,18 @@ use denote.Triple.Entry.{onEntry}
 use denote.Triple.Spec.{Meets, tripleOf}
 use denote.Triple.Table.{entered, cited}
 use denote.Triple.Walked.{says, walkOf}
-use Rattle.contest.specs.Contest.{noContenders}
+use Rattle.contenders.specs.Contest.{noContenders}
 use Rattle.records.specs.Gathered.{withRecord}
 use Rattle.line.specs.Numbers.{mostContenders}
-use Rattle.contest.specs.declared.contenders.Contender.{Contender}
-use Rattle.contest.specs.declared.contenders.Contenders.{Contenders}
+use Rattle.contenders.specs.declared.Contender.{Contender}
+use Rattle.contenders.specs.declared.Contenders.{Contenders}
 use Rattle.line.proofs.Either.{below-or-not}
-use Rattle.contest.proofs.contenders.Contender as T
-use Rattle.contest.proofs.contenders.Contenders as S
-use Rattle.contest.proofs.contenders.Contenders.Laws as S′
-use Rattle.contest.proofs.contenders.Contenders.new as new
-use Rattle.contest.proofs.contenders.Contenders.new.Symbol as new-def
-use Rattle.contest.proofs.contenders.Contenders.new.Met as new-thm
+use Rattle.contenders.proofs.Contender as T
+use Rattle.contenders.proofs.Contenders as S
+use Rattle.contenders.proofs.Contenders.Laws as S′
+use Rattle.contenders.proofs.Contenders.new as new
+use Rattle.contenders.proofs.Contenders.new.Symbol as new-def
+use Rattle.contenders.proofs.Contenders.new.Met as new-thm
 use Rattle.records.proofs.places as places
 use Rattle.records.proofs.places.Symbol as places-def
 use Rattle.records.proofs.places.Met as places-thm
@@ -272,6 +272,6 @@ gathered-spec 𝓤 H 𝓜 𝓖 𝓡 =
     (cited 𝓤 H (Places 𝓤 H (𝓖 .A) W (𝓜 .mem) (𝓡 .run)) 𝓜 𝓡 code.env places-def.name places-def.routine
     code.calls-records·places (places-thm.met 𝓤 H 𝓜 𝓖 𝓡))
     (cited 𝓤 H (New 𝓤 H (𝓖 .A) W (𝓜 .mem) (𝓡 .run)) 𝓜 𝓡 code.env new-def.name new-def.routine
-    code.calls-contest·contenders·Contenders·new (new-thm.met 𝓤 H 𝓜 𝓖 𝓡))
+    code.calls-contenders·Contenders·new (new-thm.met 𝓤 H 𝓜 𝓖 𝓡))
     (cited 𝓤 H (One 𝓤 H (𝓖 .A) W (𝓜 .mem) (𝓡 .run)) 𝓜 𝓡 code.env one-def.name one-def.routine
     code.calls-records·with-record (one-thm.met 𝓤 H 𝓜 𝓖 𝓡)))

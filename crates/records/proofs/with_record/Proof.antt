@@ -38,16 +38,16 @@ use denote.Triple.Entry.{Vals, onEntry}
 use denote.Triple.Spec.{Meets, tripleOf}
 use denote.Triple.Table.{entered, cited}
 use denote.Triple.Walked.{needs, walkOf}
-use Rattle.contest.specs.Contest.{nobody, withContender}
-use Rattle.contest.specs.declared.contenders.Contender.{Contender}
-use Rattle.contest.specs.declared.contenders.Contenders.{Contenders}
-use Rattle.contest.proofs.contenders.Contender as T
-use Rattle.contest.proofs.contenders.Contender.Laws as T′
-use Rattle.contest.proofs.contenders.Contenders as S
-use Rattle.contest.proofs.contenders.Contenders.Laws as S′
-use Rattle.contest.proofs.contenders.Contenders.with as core
-use Rattle.contest.proofs.contenders.Contenders.with.Symbol as core-def
-use Rattle.contest.proofs.contenders.Contenders.with.Met as core-thm
+use Rattle.contenders.specs.Contest.{nobody, withContender}
+use Rattle.contenders.specs.declared.Contender.{Contender}
+use Rattle.contenders.specs.declared.Contenders.{Contenders}
+use Rattle.contenders.proofs.Contender as T
+use Rattle.contenders.proofs.Contender.Laws as T′
+use Rattle.contenders.proofs.Contenders as S
+use Rattle.contenders.proofs.Contenders.Laws as S′
+use Rattle.contenders.proofs.Contenders.with as core
+use Rattle.contenders.proofs.Contenders.with.Symbol as core-def
+use Rattle.contenders.proofs.Contenders.with.Met as core-thm
 use Rattle.records.proofs.Walking.{Cited, asks, into, its, its-part, free}
 use Rattle.records.proofs.Walking.{bare, ends-bare, all-quiet, walk-to}
 use Rattle.records.proofs.with_record.Key.{name as #with-record}
@@ -188,4 +188,4 @@ with-record-spec 𝓤 H 𝓜 𝓖 𝓡 =
     (tables 𝓤 H 𝓜 𝓡 code.env .C) (tables 𝓤 H 𝓜 𝓡 code.env .Λ) #with-record code.function (code.unfolded 𝓤 H 𝓜 𝓡)
     (meets 𝓤 H (𝓖 .A) (givenOf 𝓤 H 𝓜 𝓖) (𝓜 .mem) (𝓡 .run) (tablesOf 𝓤 H 𝓜 (tables 𝓤 H 𝓜 𝓡 code.env))
     (cited 𝓤 H (Core 𝓤 H (𝓖 .A) (givenOf 𝓤 H 𝓜 𝓖) (𝓜 .mem) (𝓡 .run)) 𝓜 𝓡 code.env core-def.name core-def.routine
-    code.calls-contest·contenders·Contenders·with (core-thm.met 𝓤 H 𝓜 𝓖 𝓡)))
+    code.calls-contenders·Contenders·with (core-thm.met 𝓤 H 𝓜 𝓖 𝓡)))

@@ -1,8 +1,8 @@
 use borrow.Author.Needs.{needs}
 use borrow.Author.Tests.{eq-eqb, ne-eqb}
 use mathlib.Core.Path.{ap, _∙_}
-use Rattle.lasting.specs.Calls.{resetBytes, resetState, sizeRefusal}
-use Rattle.lasting.specs.Encode.{encode}
+use Rattle.keeping.specs.Calls.{resetBytes, resetState, sizeRefusal}
+use Rattle.keeping.specs.Encode.{encode}
 use Rattle.lasting.proofs.calls.reset.Statement.{statement}
 use Rattle.lasting.proofs.calls.reset.Tie as tie
 

@@ -3,7 +3,7 @@ use borrow.Author.Needs.{needs}
 use borrow.Author.Tests.{eq-eqb, ne-eqb}
 use mathlib.Core.Path.{sym, _∙_}
 use Rattle.rules.proofs.Protects.{holds}
-use Rattle.lasting.specs.Calls.{runAnswers, runBytes, runRefusal, runState, sizeRefusal}
+use Rattle.keeping.specs.Calls.{runAnswers, runBytes, runRefusal, runState, sizeRefusal}
 use Rattle.lasting.proofs.Taken.{promised}
 use Rattle.lasting.proofs.calls.run.Statement.{statement}
 use Rattle.lasting.proofs.calls.run.Tie as tie

@@ -1,5 +1,5 @@
 use borrow.Author.Needs.{needs}
-use Rattle.lasting.specs.Encode.{placeNumber}
+use Rattle.keeping.specs.Encode.{placeNumber}
 use Rattle.lasting.proofs.scalars.field_number.Statement.{statement}
 use Rattle.lasting.proofs.scalars.field_number.Tie as tie
 

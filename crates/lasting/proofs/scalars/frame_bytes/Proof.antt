@@ -1,5 +1,5 @@
 use borrow.Author.Needs.{needs}
-use Rattle.lasting.specs.Encode.{frameBytes}
+use Rattle.keeping.specs.Encode.{frameBytes}
 use Rattle.lasting.proofs.scalars.frame_bytes.Statement.{statement}
 use Rattle.lasting.proofs.scalars.frame_bytes.Tie as tie
 

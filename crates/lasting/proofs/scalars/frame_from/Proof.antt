@@ -1,5 +1,5 @@
 use borrow.Author.Needs.{needs}
-use Rattle.lasting.specs.Decode.{frameIn}
+use Rattle.keeping.specs.Decode.{frameIn}
 use Rattle.lasting.proofs.scalars.frame_from.Statement.{statement}
 use Rattle.lasting.proofs.scalars.frame_from.Tie as tie
 

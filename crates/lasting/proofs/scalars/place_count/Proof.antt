@@ -1,5 +1,5 @@
 use borrow.Author.Needs.{needs}
-use Rattle.lasting.specs.Encode.{placeCount}
+use Rattle.keeping.specs.Encode.{placeCount}
 use Rattle.lasting.proofs.scalars.place_count.Statement.{statement}
 use Rattle.lasting.proofs.scalars.place_count.Tie as tie
 

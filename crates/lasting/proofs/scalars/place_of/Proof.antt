@@ -1,5 +1,5 @@
 use borrow.Author.Tests.{ne-eqb}
-use Rattle.lasting.specs.Decode.{placeOf}
+use Rattle.keeping.specs.Decode.{placeOf}
 use Rattle.lasting.proofs.scalars.place_of.Statement.{statement}
 use Rattle.lasting.proofs.scalars.place_of.Tie as tie
 

@@ -1,5 +1,5 @@
 use borrow.Author.Needs.{needs}
-use Rattle.lasting.specs.Encode.{registerBytes}
+use Rattle.keeping.specs.Encode.{registerBytes}
 use Rattle.lasting.proofs.scalars.registers_bytes.Statement.{statement}
 use Rattle.lasting.proofs.scalars.registers_bytes.Tie as tie
 

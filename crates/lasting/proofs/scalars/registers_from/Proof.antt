@@ -1,5 +1,5 @@
 use borrow.Author.Needs.{needs}
-use Rattle.lasting.specs.Decode.{registersIn}
+use Rattle.keeping.specs.Decode.{registersIn}
 use Rattle.lasting.proofs.scalars.registers_from.Statement.{statement}
 use Rattle.lasting.proofs.scalars.registers_from.Tie as tie
 

@@ -1,5 +1,5 @@
 use borrow.Author.Needs.{needs}
-use Rattle.lasting.specs.Decode.{decode}
+use Rattle.keeping.specs.Decode.{decode}
 use Rattle.lasting.proofs.whole.core_from.Statement.{statement}
 use Rattle.lasting.proofs.whole.core_from.Tie as tie
 

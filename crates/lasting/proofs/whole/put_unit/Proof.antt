@@ -1,8 +1,7 @@
 use borrow.Author.Needs.{needs}
 use mathlib.Core.Path.{_∙_}
 use Rattle.unit.specs.Both.{stateOf}
-use Rattle.lasting.proofs.Again.{kept}
-use Rattle.lasting.proofs.Parts.{circle-most}
+use Rattle.lasting.proofs.Parts.{circle-most, kept}
 use Rattle.lasting.proofs.whole.put_unit.Statement.{statement}
 use Rattle.lasting.proofs.whole.put_unit.Tie as tie
 

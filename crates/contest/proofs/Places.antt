@@ -1,0 +1,155 @@
+-- Places in a list of contenders: what a search that goes from place to place has found, and who stands where.
+use mathlib.Core.Bool.{Bool, true, false}
+use mathlib.Core.Logic.{_⊎_, ⊎-elim}
+use mathlib.Core.Path.{_≡_, refl, ap, _∙_}
+use mathlib.Core.List.{List, [], _∷_}
+use Prim.Native.Nat.{ℕ, zero, suc, _+_, _-_, _≤_, _<_}
+use native.Mathlib.Nat.{not-suc-le-zero}
+use native.Mathlib.Numerals.{add-one}
+use native.Mathlib.Omega.{arith}
+use borrow.Author.Tests.{lt-ltb, le-ltb}
+use lib.ListN.{length, drop, getD, drop-of-length-le}
+use lib.Seq.{drop-cons}
+use Rattle.contenders.specs.Contest.{nobody, firstOf, firstPlace, firstTwin, alike, Twin}
+use Rattle.contenders.specs.declared.Contender.{Contender}
+use Rattle.line.proofs.Either.{either, below-or-not}
+
+pub length-firstOf : (n : ℕ) (cs : List Contender) → length (firstOf n cs) ≡ n
+unfolding firstOf
+length-firstOf zero cs = refl
+length-firstOf (suc n) [] = ap suc (length-firstOf n [])
+length-firstOf (suc n) (c ∷ cs) = ap suc (length-firstOf n cs)
+
+pub getD-firstOf : (n : ℕ) (cs : List Contender) (i : ℕ) → i < n → getD (firstOf n cs) i nobody ≡ getD cs i nobody
+unfolding firstOf
+getD-firstOf zero cs i h = absurd (not-suc-le-zero h)
+getD-firstOf (suc n) [] zero h = refl
+getD-firstOf (suc n) [] (suc i) h = getD-firstOf n [] i (omega arith)
+getD-firstOf (suc n) (c ∷ cs) zero h = refl
+getD-firstOf (suc n) (c ∷ cs) (suc i) h = getD-firstOf n cs i (omega arith)
+
+module _ {A : Type 0} (test : A → Bool) where
+  first-here : {x : A} (xs : List A) → test x ≡ true → firstPlace test (x ∷ xs) ≡ 0
+  unfolding firstPlace
+  first-here xs e = simp e
+
+  first-later : {x : A} (xs : List A) → test x ≡ false → firstPlace test (x ∷ xs) ≡ firstPlace test xs + 1
+  unfolding firstPlace
+  first-later xs e = simp e
+
+  first-nil : firstPlace test [] ≡ 0
+  unfolding firstPlace
+  first-nil = refl
+
+  pub first-le : (xs : List A) → firstPlace test xs ≤ length xs
+  first-le [] = omega (arith, first-nil)
+  first-le (x ∷ xs) =
+      ⊎-elim (λ t. omega (arith, first-here xs t)) (λ f. omega (arith, first-later xs f, first-le xs))
+      (either (test x))
+
+  -- the place found holds what was looked for, and no place before it does
+  pub first-holds : (xs : List A) (d : A) → firstPlace test xs < length xs
+      → test (getD xs (firstPlace test xs) d) ≡ true
+  first-holds [] d h = absurd (omega (arith, first-nil))
+  first-holds (x ∷ xs) d h =
+      ⊎-elim (λ t. rw (first-here xs t) t) (λ f. rw (first-later xs f, add-one)
+      (first-holds xs d (omega (arith, first-later xs f))))
+      (either (test x))
+
+  pub first-none : (xs : List A) (d : A) (i : ℕ) → i < firstPlace test xs → test (getD xs i d) ≡ false
+  first-none [] d i h = absurd (omega (arith, first-nil))
+  first-none (x ∷ xs) d zero h = ⊎-elim (λ t. absurd (omega (arith, first-here xs t))) (λ f. f) (either (test x))
+  first-none (x ∷ xs) d (suc i) h =
+      ⊎-elim (λ t. absurd (omega (arith, first-here xs t))) (λ f. first-none xs d i (omega (arith, first-later xs f)))
+      (either (test x))
+
+  -- a search has come to the place i, and what it looks for lies no nearer
+  pub record Passed (xs : List A) (found i : ℕ) : Type 0 where
+    pub ahead : found ≡ i + firstPlace test (drop i xs)
+    pub within : i ≤ length xs
+
+  pub passed-one : {xs : List A} {found i : ℕ} (d : A) → Passed xs found i → i < length xs
+      → test (getD xs i d) ≡ false
+      → Passed xs found (i + 1)
+  passed-one {xs} {found} {i} d p h e =
+      let next : firstPlace test (drop i xs) ≡ firstPlace test (drop (i + 1) xs) + 1
+      = ap (firstPlace test) (drop-cons xs i d h) ∙ first-later (drop (suc i) xs) e ∙ rw (add-one i) in
+      record { ahead = omega (arith, p .ahead, next); within = omega arith }
+
+  pub passed-here : {xs : List A} {found i : ℕ} (d : A) → Passed xs found i → i < length xs
+      → test (getD xs i d) ≡ true → i ≡ found
+  passed-here {xs} {found} {i} d p h e =
+      let here : firstPlace test (drop i xs) ≡ 0 = ap (firstPlace test) (drop-cons xs i d h)
+      ∙ first-here (drop (suc i) xs) e in
+      omega (arith, p .ahead, here)
+
+  pub passed-all : {xs : List A} {found i : ℕ} → Passed xs found i → length xs ≤ i → i ≡ found
+  passed-all {xs} {found} {i} p h =
+      let none : firstPlace test (drop i xs) ≡ 0 = ap (firstPlace test) (drop-of-length-le xs h) ∙ first-nil in
+      omega (arith, p .ahead, none)
+
+  pub passed-none : (xs : List A) → Passed xs (firstPlace test xs) 0
+  passed-none xs = record { ahead = omega arith; within = omega arith }
+
+  -- a place where the test holds, and holds at none before it, is the first
+  pub first-is : (xs : List A) (d : A) (p : ℕ) → p < length xs → test (getD xs p d) ≡ true
+      → ((i : ℕ) → i < p → test (getD xs i d) ≡ false) → p ≡ firstPlace test xs
+  first-is xs d p h here before = passed-here d (up p (omega arith)) h here
+    where
+      up : (i : ℕ) → i ≤ p → Passed xs (firstPlace test xs) i
+      up zero le = passed-none xs
+      up (suc i) le = rw (← add-one i) (passed-one d (up i (omega arith)) (omega arith) (before i (omega arith)))
+
+-- ---- contenders alike
+
+pub twin-here : (c : Contender) (cs : List Contender) → firstPlace (alike c) cs < length cs → firstTwin (c ∷ cs) ≡ 0
+unfolding firstTwin
+twin-here c cs h = simp (lt-ltb _ _ h)
+
+pub twin-later : (c : Contender) (cs : List Contender) → length cs ≤ firstPlace (alike c) cs
+    → firstTwin (c ∷ cs) ≡ firstTwin cs + 1
+unfolding firstTwin
+twin-later c cs h = simp (le-ltb _ _ h)
+
+pub twin-nil : firstTwin [] ≡ 0
+unfolding firstTwin
+twin-nil = refl
+
+-- one contender more before the others
+twin-shifted : {c : Contender} {cs : List Contender} {p : ℕ} → Twin cs p → Twin (c ∷ cs) (p + 1)
+twin-shifted {c} {cs} {p} t =
+    record {
+      within = omega (arith, t .within);
+      other = t .other + 1;
+      other-within = omega (arith, t .other-within);
+      apart = λ e. t .apart (omega arith);
+      same = rw (add-one p, add-one (t .other)) (t .same);
+    }
+
+-- number 15 names a contender that has another alike
+pub twin-found : (cs : List Contender) → firstTwin cs < length cs → Twin cs (firstTwin cs)
+twin-found [] h = absurd (omega (arith, twin-nil))
+twin-found (c ∷ cs) h =
+    ⊎-elim
+    (λ y. rw (twin-here c cs y) (record {
+      within = omega arith;
+      other = firstPlace (alike c) cs + 1;
+      other-within = omega arith;
+      apart = λ e. omega arith;
+      same = rw (add-one (firstPlace (alike c) cs)) (first-holds (alike c) cs nobody y);
+    }))
+    (λ n. rw (twin-later c cs n) (twin-shifted (twin-found cs (omega (arith, twin-later c cs n)))))
+    (below-or-not (firstPlace (alike c) cs) (length cs))
+
+-- where none was found, no two are alike
+pub no-twin : (cs : List Contender) (i j : ℕ) → length cs ≤ firstTwin cs → i < j → j < length cs
+    → alike (getD cs i nobody) (getD cs j nobody) ≡ false
+no-twin [] i j none lt h = absurd (omega arith)
+no-twin (c ∷ cs) i zero none lt h = absurd (omega arith)
+no-twin (c ∷ cs) zero (suc j) none lt h =
+    ⊎-elim (λ y. absurd (omega (arith, twin-here c cs y))) (λ n. first-none (alike c) cs nobody j (omega arith))
+    (below-or-not (firstPlace (alike c) cs) (length cs))
+no-twin (c ∷ cs) (suc i) (suc j) none lt h =
+    ⊎-elim (λ y. absurd (omega (arith, twin-here c cs y)))
+    (λ n. no-twin cs i j (omega (arith, twin-later c cs n)) (omega arith) (omega arith))
+    (below-or-not (firstPlace (alike c) cs) (length cs))

@@ -1,6 +1,0 @@
-use mathlib.Core.Path.{refl}
-use Rattle.contest.proofs.contenders.Contenders.new.Statement.{statement}
-use Rattle.contest.proofs.contenders.Contenders.new.Tie as tie
-
-pub new-spec : {M : Type 1} → statement M
-new-spec = tie.close (tie.spec (λ c. refl))
