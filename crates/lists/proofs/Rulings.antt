@@ -7,7 +7,7 @@ use Prim.Native.Nat.{ℕ, zero, suc, _%_, _≤_, _<_}
 use native.Mathlib.Omega.{arith}
 use borrow.Author.Tests.{eq-eqb, le-ltb}
 use lib.Dec.{T}
-use lib.ListN.{length, take, getD, length-append, List·getD-append}
+use lib.ListN.{length, take, getD, length-append, length-take, List·getD-append}
 use Rattle.line.specs.Numbers.{kindRefused}
 use Rattle.line.specs.Slot.{kindOf}
 use Rattle.isolation.specs.Runs.{run, answers}
@@ -74,6 +74,11 @@ pub bytes-answered : {s : State} {words before after : List ℕ} {number : ℕ} 
     → length words % 4 ≡ 0 → length words ≤ length before → AllRuled s (wordsOf words) (wordsOf after)
 unfolding countRefusal
 bytes-answered call whole room = call .ruled (call .ends ∙ rw (eq-eqb _ _ whole, le-ltb _ _ room))
+
+-- one answer word per word
+pub one-per-word : {s : State} {words after : List ℕ} → AllRuled s words after
+    → length (take (length words) after) ≡ length words
+one-per-word {s} {words} {after} all = omega (arith, all .one-each, length-take (length words) after)
 
 abbrev isRefused : Ruling → Bool
 isRefused accepted = false
