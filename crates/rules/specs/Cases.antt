@@ -31,8 +31,8 @@ use Rattle.rules.specs.Stories.{masterRead, wanted, ranEmpty, lengthNak,
 use Rattle.rules.specs.Stories.{lockCompleted, stranger6, holder6, contender, loss, lastLoss, lost, lostTwice}
 use Rattle.rules.specs.Stories.{lostAnew, heldBack, thirdFrame, cleared, length256, group, general, masterStarts}
 use Rattle.rules.specs.Stories.{masterWants, tooLong, triesOn, outlasted, outlastedBroken, noneTaken, ranEmpty7}
-use Rattle.rules.specs.Stories.{unheard6, takenAnew, comesAgain, twoOffered, twoSent, statusAsked, unheard}
-use Rattle.rules.specs.Stories.{from525, readAll, turnedDown, filled, controlsIn, oneOffered}
+use Rattle.rules.specs.Stories.{unheard6, takenAnew, comesAgain, twoOffered, twoSent, offerOutlasts, statusAsked}
+use Rattle.rules.specs.Stories.{unheard, from525, readAll, turnedDown, filled, controlsIn, oneOffered}
 
 -- "master 525H, FH, length 2: RBF begins 52H 5FH 02H"; "status after reset 80H"; the listing's example; the stories
 unfoldable pub unitCases : List Case
@@ -78,6 +78,8 @@ unitCases =
     ∷ (twoOffered ++ write 0x0 0x10 ∷ exchange 0x525 0x123 0xF 1 (0x42 ∷ [])
     leaves asReset ▹ rcr 0xF6 ▹ flg 0x20 ▹ rdr2 4 ▹ tbf (0x02 ∷ 0x11 ∷ 0x22 ∷ [])
     ▹ rbf (0x52 ∷ 0x5F ∷ 0x01 ∷ 0x42 ∷ []))
+    ∷ (offerOutlasts leaves asReset ▹ rcr 0xF7 ▹ flg 0x20 ▹ rdr2 4 ▹ tbf (0x02 ∷ 0x11 ∷ 0x22 ∷ [])
+    ▹ rbf (0x52 ∷ 0x5F ∷ 0x02 ∷ 0x99 ∷ []))
     ∷ (thirdFrame leaves asReset ▹ rcr 0xF6 ▹ rdr2 5 ▹ rbf (0x52 ∷ 0x5F ∷ 0x02 ∷ 0xA7 ∷ 0x5B ∷ []))
     ∷ (cleared leaves asReset ▹ rcr 0xF6 ▹ rdr2 4 ▹ rbf (0x52 ∷ 0x5F ∷ 0x01 ∷ 0x42 ∷ []))
     ∷ (length256 leaves asReset ▹ rcr 0xF7 ▹ rdr2 4 ▹ rbf (0x52 ∷ 0x5F ∷ 0x00 ∷ 0x42 ∷ []))

@@ -306,6 +306,10 @@ takenAnew = lockCompleted ++ readOut ++ brokenOff 0x111 0x123 0xA
 
 -- ---- what is driven
 
+-- a frame's start and its master, before a slave is named
+abbrev pub from525 : List ℕ
+from525 = 2 ∷ 1 ∷ field 12 0x525
+
 -- a byte with a wrong P, which comes again
 abbrev pub comesAgain : List ℕ
 comesAgain = header 0x525 0x123 0xF 0 ++ answered 8 1 0 ++ spoilt 8 0x42 ++ 1 ∷ answered 8 0x42 0 ++ 3 ∷ []
@@ -319,16 +323,18 @@ twoSent =
     header 0x525 0x123 0x7 0 ++ answered 8 2 0 ++ answered 8 0x11 1 ++ answered 8 0x11 0 ++ answered 8 0x22 0
     ++ 3 ∷ []
 
+-- frames that break off in each field, the last one in its data; what is offered stays
+abbrev pub offerOutlasts : List ℕ
+offerOutlasts =
+    twoOffered ++ write 0x0 0x10 ∷ 2 ∷ 3 ∷ 2 ∷ 1 ∷ 3 ∷ from525 ++ 3 ∷ from525 ++ answered 12 0x123 0 ++ 3 ∷ header
+    0x525 0x123 0xF 0 ++ 3 ∷ brokenOff 0x525 0x123 0xF
+
 -- 0H behind the master address, up to the status byte; and so many NAKs for it
 abbrev pub statusAsked : List ℕ
 statusAsked = answered 12 0x123 0 ++ answered 4 0x0 0 ++ answered 8 1 0
 
 abbrev pub unheard : ℕ → List ℕ
 unheard n = times n (answered 8 0x90 1)
-
--- a frame's start and its master, before a slave is named
-abbrev pub from525 : List ℕ
-from525 = 2 ∷ 1 ∷ field 12 0x525
 
 -- ---- registers
 
