@@ -179,11 +179,13 @@ drivenCases =
     -- the same of a master: after 16 attempts its request is aborted, in mode 1 the 17th and 18th are made
     ∷ (triesOn 0x32 leaves asReset ▹ rcr 0x3F)
     ∷ (triesOn 0x33 leaves asReset ▹ rcr 0x2F)
-    -- "UAR1 (own address low 4 bits ..)": written last, it keeps the high 8
+    -- "UAR1 (own address low 4 bits ..)": written last, it keeps the high 8; UAR2 keeps the low 4 alone
     ∷ (answering (write 0x3 0x12 ∷ write 0x2 0x32 ∷ from525) (answered 12 0x123 0)
     gives taken (released 12 ++ 0 ∷ 1 ∷ []))
-    -- "The mode counts as it was at the frame's start slot": no 17th attempt, UAR1 being written inside the frame
-    ∷ (answering (setUp ++ from525 ++ write 0x2 0x33 ∷ statusAsked ++ unheard 16) (1 ∷ 1 ∷ [])
+    ∷ (answering (setUp ++ write 0x2 0x62 ∷ write 0x3 0x45 ∷ from525) (answered 12 0x456 0)
+    gives taken (released 12 ++ 0 ∷ 1 ∷ []))
+    -- "The mode counts as it was at the frame's start slot": no 17th attempt, UAR1 being first written inside the frame
+    ∷ (answering (write 0x3 0x12 ∷ from525 ++ write 0x2 0x33 ∷ statusAsked ++ unheard 16) (1 ∷ 1 ∷ [])
     gives taken (1 ∷ 1 ∷ []))
     ∷ []
 
