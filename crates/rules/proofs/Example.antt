@@ -1,8 +1,8 @@
--- Demand 3 on two lists that meet its conditions. A unit that has sent as a master, so that MARC has a code, is locked
+-- Demand 3 on two lists that meet its conditions. A unit with a code in MARC, of a request that was aborted, is locked
 -- to 525H. Its host offers slave data; the holder reads a byte of it with 3H, breaks off, and takes two more frames of
--- BH to end the lock. In the first list strangers read status and lock, are turned down with every other control,
--- also while data is offered, broadcast, break off in every field and spoil a parity, in between there are levels, idle
--- slots and stray bits; in the second there is other noise. The claim is then applied at four places.
+-- BH to end the lock. In the first list strangers read status and lock, are turned down with every other control while
+-- data is offered, broadcast, break off in every field and spoil a parity, in between there are levels, idle slots and
+-- stray bits; in the second there is other noise. The claim is then applied at four places.
 use mathlib.Core.Bool.{Bool, true, false, false≢true, not, _&&_}
 use mathlib.Core.Path.{_≡_, refl, sym, ap, _∙_}
 use mathlib.Core.List.{List, [], _∷_, _++_, map}
@@ -11,7 +11,6 @@ use native.Mathlib.Omega.{arith}
 use borrow.Author.Tests.{not-true}
 use lib.Count.{ones, onesIn}
 use lib.ListN.{length, take, getD}
-use lib.Seq.{take-take}
 use Rattle.line.specs.Numbers.{driveReleased}
 use Rattle.line.specs.Parity as parity
 use Rattle.line.specs.Slot.{Class, slot, host, slotOf, classOf}
@@ -32,7 +31,7 @@ use Rattle.rules.specs.Endings as endings
 use Rattle.rules.specs.Slots as slots
 use Rattle.rules.specs.Registers as registers
 use Rattle.rules.specs.Step as step
-use Rattle.rules.specs.Stories.{answered, brokenOff, exchange, header, lockTaken, masterWrite, read, readOut}
+use Rattle.rules.specs.Stories.{answered, asksToWrite, brokenOff, exchange, header, lockTaken, read, readOut}
 use Rattle.rules.specs.Stories.{toAll, write}
 use Rattle.rules.specs.Machine.{observed, unit, waiting}
 use Rattle.rules.proofs.Protects.{holds}
@@ -77,9 +76,8 @@ firstLed = 1 ∷ 0 ∷ 3 ∷ 0x10 ∷ header 0x111 0x123 0x0 0
 abbrev firstBefore : List ℕ
 firstBefore =
     firstLed ++ read 0x8 ∷ answered 8 1 0 ++ answered 8 0x96 0 ++ 3 ∷ exchange 0x111 0x123 0x4 1 (0x25 ∷ [])
-    ++ exchange 0x111 0x123 0x5 1 (0x05 ∷ []) ++ turnedDown (0x3 ∷ 0x6 ∷ 0x7 ∷ 0xA ∷ 0xB ∷ 0xE ∷ 0xF ∷ [])
-    ++ readOut ++ offers ++ broadcast ++ turnedDown (0x3 ∷ 0x6 ∷ 0x7 ∷ [])
-    ++ broken (1 ∷ 2 ∷ 8 ∷ 20 ∷ 32 ∷ 40 ∷ 50 ∷ 56 ∷ [])
+    ++ exchange 0x111 0x123 0x5 1 (0x05 ∷ []) ++ readOut ++ offers ++ broadcast
+    ++ turnedDown (0x3 ∷ 0x6 ∷ 0x7 ∷ 0xA ∷ 0xB ∷ 0xE ∷ 0xF ∷ []) ++ broken (1 ∷ 2 ∷ 8 ∷ 20 ∷ 32 ∷ 40 ∷ 50 ∷ [])
 
 abbrev secondBefore : List ℕ
 secondBefore = read 0x8 ∷ 3 ∷ 3 ∷ readOut ++ 0x0FFF_FFFF ∷ 1 ∷ broken (13 ∷ []) ++ offers
@@ -94,9 +92,9 @@ second =
     secondBefore ++ halfRead ++ 3 ∷ brokenOff 0x525 0x123 0xB ++ 3 ∷ turnedDown (0xB ∷ []) ++ readOut ++ broadcast
     ++ completed
 
--- the unit that both begin with
+-- the unit that both begin with; two starts have aborted its request
 abbrev pub begin : State
-begin = run unit reset (masterWrite ++ lockTaken)
+begin = run unit reset (asksToWrite 0x8F ++ 3 ∷ 2 ∷ 2 ∷ lockTaken)
 
 -- up to and with the word that ends the lock, which the closing idle slot follows
 abbrev pub upTo : List ℕ → ℕ
@@ -108,28 +106,10 @@ bitAt before = length before + 45
 
 -- ---- the conditions, and what comes out
 
--- a test of every state on the way
-along : (State → Bool) → State → List ℕ → Bool
-along p s [] = p s
-along p s (w ∷ ws) = p s && along p (unit .step s w) ws
-
-along-at : (p : State → Bool) (s : State) (ws : List ℕ) (k : ℕ) → along p s ws ≡ true
-    → p (run unit s (take k ws)) ≡ true
-unfolding along run
-along-at p s [] zero e = e
-along-at p s [] (suc k) e = e
-along-at p s (w ∷ ws) zero e = both (p s) _ e .0
-along-at p s (w ∷ ws) (suc k) e = along-at p (unit .step s w) ws k (both (p s) _ e .1)
-
-held : State → Bool
-held s = s .core .regs .locked
-
-unasked : State → Bool
-unasked s = not (s .core .regs .marq)
-
--- the states before these words are locked, and no request stands
-checks : List ℕ → Bool
-checks A = along held begin (take (upTo A - 1) A) && along unasked begin (take (upTo A) A)
+-- from a state and over some words, the comparison goes on: locked before each word, and no request at any time
+goesOn : State → List ℕ → Bool
+goesOn s [] = not (s .core .regs .marq)
+goesOn s (w ∷ ws) = (s .core .regs .locked && not (s .core .regs .marq)) && goesOn (unit .step s w) ws
 
 -- all that is computed
 record Computed : Type 0 where
@@ -138,17 +118,17 @@ record Computed : Type 0 where
   spaced-first : spaced false (map classOf first) ≡ true
   spaced-second : spaced false (map classOf second) ≡ true
   same : kept 0x525 first ≡ kept 0x525 second
-  checks-first : checks first ≡ true
-  checks-second : checks second ≡ true
+  goes-first : goesOn begin (take (upTo first) first) ≡ true
+  goes-second : goesOn begin (take (upTo second) second) ≡ true
   -- the host's first word comes where 0 is driven in the first list, and 1 in the second
   asked : Places 0x525 first second (length firstLed) 0
-  told-first : getD (answers unit begin first) (length firstLed) 0 ≡ 0xA000_0027
-  told-second : getD (answers unit begin second) 0 0 ≡ 0xA000_0127
+  told-first : getD (answers unit begin first) (length firstLed) 0 ≡ 0xA000_0037
+  told-second : getD (answers unit begin second) 0 0 ≡ 0xA000_0137
   -- slave data is offered
   offering : Behind 0x525 first second (length firstBefore) (length secondBefore)
   standing : run unit begin (take (length firstBefore) first) .core .regs .strq ≡ true
   offered : observed (run unit begin (take (length firstBefore) first))
-      ≡ record { tbf = 0x02 ∷ 0x22 ∷ 0x33 ∷ []; rbf = []; locked = true; holder = 0x525; marc = 2; slrc = 7 }
+      ≡ record { tbf = 0x02 ∷ 0x22 ∷ 0x33 ∷ []; rbf = []; locked = true; holder = 0x525; marc = 3; slrc = 7 }
   -- the holder reads a 0, the first bit of 22H
   reading : Places 0x525 first second (bitAt firstBefore) (bitAt secondBefore)
   a-level : classOf (getD first (bitAt firstBefore) 0) ≡ slot (Level false)
@@ -156,10 +136,10 @@ record Computed : Type 0 where
   -- the holder's last reception is whole, and the lock has ended
   ending : Behind 0x525 first second (upTo first) (upTo second)
   ended : observed (run unit begin (take (upTo first) first))
-      ≡ record { tbf = []; rbf = 0x52 ∷ 0x5B ∷ 0x01 ∷ 0x98 ∷ []; locked = false; holder = 0; marc = 2; slrc = 6 }
+      ≡ record { tbf = []; rbf = 0x52 ∷ 0x5B ∷ 0x01 ∷ 0x98 ∷ []; locked = false; holder = 0; marc = 3; slrc = 6 }
 
 computed : Computed
-unfolding checks along held unasked first second framed fromMaster levels spells marks marked keeps kept spaced count
+unfolding goesOn first second framed fromMaster levels spells marks marked keeps kept spaced count
     answers driven latest ones onesIn parity.parityOf parity.parityHolds parity.levelOf
     parity.levelsOf slotOf classOf frame.limitOf frame.lengthOf frame.shiftOf frame.begunOf frame.toField
     frame.doneOf frame.nextOf frame.shiftedOf frame.withLength slaves.addressedOf slaves.writesOf slaves.strangerOf
@@ -189,8 +169,8 @@ computed =
       spaced-first = refl;
       spaced-second = refl;
       same = refl;
-      checks-first = refl;
-      checks-second = refl;
+      goes-first = refl;
+      goes-second = refl;
       asked = record { first = refl; second = refl; behind = refl };
       told-first = refl;
       told-second = refl;
@@ -214,17 +194,41 @@ given =
       same = computed .same;
     }
 
-compared : (A : List ℕ) → 0 < upTo A → checks A ≡ true → Compared unit begin A (upTo A)
-unfolding checks held unasked
-compared A some e =
-    let parts = both (along held begin (take (upTo A - 1) A)) (along unasked begin (take (upTo A) A)) e in
+-- what it says of the first word, and of the others
+first-free : (s : State) (w : ℕ) (ws : List ℕ) → goesOn s (w ∷ ws) ≡ true
+    → (s .core .regs .locked && not (s .core .regs .marq)) ≡ true
+unfolding goesOn
+first-free s w ws e = both (s .core .regs .locked && not (s .core .regs .marq)) _ e .0
+
+later-on : (s : State) (w : ℕ) (ws : List ℕ) → goesOn s (w ∷ ws) ≡ true → goesOn (unit .step s w) ws ≡ true
+unfolding goesOn
+later-on s w ws e = both (s .core .regs .locked && not (s .core .regs .marq)) _ e .1
+
+goes-held : (s : State) (A : List ℕ) (i k : ℕ) → goesOn s (take i A) ≡ true → i ≤ length A → k < i
+    → run unit s (take k A) .core .regs .locked ≡ true
+unfolding run
+goes-held s A zero k e n l = absurd (omega arith)
+goes-held s [] (suc i) k e n l = absurd (omega arith)
+goes-held s (w ∷ A) (suc i) zero e n l = both (s .core .regs .locked) _ (first-free s w (take i A) e) .0
+goes-held s (w ∷ A) (suc i) (suc k) e n l =
+    goes-held (unit .step s w) A i k (later-on s w (take i A) e) (omega arith) (omega arith)
+
+goes-unasked : (s : State) (A : List ℕ) (i k : ℕ) → goesOn s (take i A) ≡ true → i ≤ length A → k ≤ i
+    → run unit s (take k A) .core .regs .marq ≡ false
+unfolding goesOn run
+goes-unasked s A zero zero e n l = not-true (s .core .regs .marq) e
+goes-unasked s A zero (suc k) e n l = absurd (omega arith)
+goes-unasked s [] (suc i) k e n l = absurd (omega arith)
+goes-unasked s (w ∷ A) (suc i) zero e n l =
+    not-true (s .core .regs .marq) (both (s .core .regs .locked) _ (first-free s w (take i A) e) .1)
+goes-unasked s (w ∷ A) (suc i) (suc k) e n l =
+    goes-unasked (unit .step s w) A i k (later-on s w (take i A) e) (omega arith) (omega arith)
+
+compared : (A : List ℕ) → goesOn begin (take (upTo A) A) ≡ true → Compared unit begin A (upTo A)
+compared A e =
     record {
-      held = λ k l.
-          rw (sym (take-take k (upTo A - 1) A (omega arith)))
-          (along-at held begin (take (upTo A - 1) A) k (parts .0));
-      unasked = λ k l.
-          not-true (run unit begin (take k A) .core .regs .marq)
-          (rw (sym (take-take k (upTo A) A l)) (along-at unasked begin (take (upTo A) A) k (parts .1)));
+      held = λ k l. goes-held begin A (upTo A) k e (omega arith) l;
+      unasked = λ k l. goes-unasked begin A (upTo A) k e (omega arith) l;
     }
 
 -- the places lie in the lists
@@ -240,11 +244,11 @@ alike = holds 0x525 begin first second given
 
 compared-first : (i : ℕ) → i ≤ upTo first → Compared unit begin first i
 compared-first i l =
-    shorter unit begin first (upTo first) i l (compared first (omega (arith, room .0)) (computed .checks-first))
+    shorter unit begin first (upTo first) i l (compared first (computed .goes-first))
 
 compared-second : (j : ℕ) → j ≤ upTo second → Compared unit begin second j
 compared-second j l =
-    shorter unit begin second (upTo second) j l (compared second (omega (arith, room .1)) (computed .checks-second))
+    shorter unit begin second (upTo second) j l (compared second (computed .goes-second))
 
 -- the host is answered alike, but for the drive bits
 pub told-alike : shown (classOf (getD first (length firstLed) 0)) (getD (answers unit begin first) (length firstLed) 0)
