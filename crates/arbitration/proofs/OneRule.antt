@@ -12,8 +12,8 @@ use lib.ListN.{List·getD-append, List·getD-map, drop, getD, length, length-app
 use Rattle.line.specs.Numbers.{contestSlots, driveStart, highestAddress, lastContestSlot}
 use Rattle.line.proofs.Either.{below-or-not, both, either}
 use Rattle.line.specs.Parity.{levelOf}
-use Rattle.contenders.specs.Contest.{Wins, firstOut, firstPlace, inRange, lossOf, lossesOf, nobody, numberOf, outOfRange}
-use Rattle.contenders.specs.Contest.{winnerOf}
+use Rattle.contenders.specs.Contest.{Wins, firstOut, firstPlace, inRange, lossOf, lossesOf, nobody, numberOf}
+use Rattle.contenders.specs.Contest.{outOfRange, winnerOf}
 use Rattle.contest.specs.Deciding.{Fair}
 use Rattle.contenders.specs.declared.Contender.{Contender}
 use Rattle.contest.proofs.Winner.{length-losses}

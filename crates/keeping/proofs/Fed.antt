@@ -1,6 +1,6 @@
 -- What follows from the contracts of `iebus_unit_reset` and `iebus_unit_run` alone: a call that is refused changes
--- nothing; a list that is fed in pieces, over any number of calls, with refused ones among them, is one run; and demand 3
--- for two such lists.
+-- nothing; a list that is fed in pieces, over any number of calls, with refused ones among them, is one run; and
+-- demand 3 for two such lists.
 use mathlib.Core.Path.{_≡_, refl, sym, ap, _∙_}
 use mathlib.Core.List.{List, [], _∷_, _++_, append-nil}
 use Prim.Native.Nat.{ℕ, _*_, _%_}

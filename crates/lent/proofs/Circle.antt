@@ -171,7 +171,8 @@ pop-list n h bytes span = by (eqb (heldOf n (span .count)) 0) refl
         → circleOf n bytes (pick t span next) ≡ drop 1 (circleOf n bytes span)
     by true e = none-left _ (items-length n bytes _ _ ∙ eqb-true _ 0 e)
     by false e =
-        circle-pop n bytes (span .first) (span .count) (heldOf n (span .count)) h refl (omega (arith, eqb-false (heldOf n (span .count)) 0 e))
+        circle-pop n bytes (span .first) (span .count) (heldOf n (span .count)) h refl
+        (omega (arith, eqb-false (heldOf n (span .count)) 0 e))
 
 -- ---- what a slot does to them
 

@@ -46,8 +46,8 @@ pub(crate) struct Done {
 }
 
 impl Lent {
-    // "Reset: RCR FFH, MCR 80H, all else zero or empty, waiting for a start, idle not seen." The bytes lent stay as they
-    // are.
+    // "Reset: RCR FFH, MCR 80H, all else zero or empty, waiting for a start, idle not seen." The bytes lent stay as
+    // they are.
     pub(crate) fn reset() -> Lent
         ensures { λ r. ⌜ r ≡ resetLent ⌝ }
     {
@@ -153,8 +153,8 @@ impl Lent {
         self.told(word, tbf, rbf)
     }
 
-    // The unit after a word, and what it is answered; its buffers are lent, and of these no place is written but where a
-    // byte comes in.
+    // The unit after a word, and what it is answered; its buffers are lent, and of these no place is written but where
+    // a byte comes in.
     pub fn step(self, word: u32, tbf: &mut [u8; TBF_BYTES], rbf: &mut [u8; RBF_BYTES]) -> Answered
         ensures { λ r. ⌜ Runs self word (now (tbf .entry)) (now (tbf .exit)) (now (rbf .entry)) (now (rbf .exit)) r ⌝ }
     {
