@@ -2,15 +2,15 @@
 -- stranger's frame is seen in them; and the lock goes on as far in both lists.
 use mathlib.Core.Bool.{true, false}
 use mathlib.Core.Path.{_≡_, ap}
-use mathlib.Core.List.{List, map}
+use mathlib.Core.List.{List, [], _∷_, _++_, map}
 use Prim.Native.Nat.{ℕ, suc, _≤_, _<_}
-use lib.ListN.{take, getD}
+use lib.ListN.{length, take, getD}
 use Rattle.line.specs.Numbers.{driveReleased}
 use Rattle.line.specs.Slot.{classOf, host}
 use Rattle.place.specs.declared.Place.the-variants.{Waiting}
 use Rattle.isolation.specs.Words.{count, keeps, kept, spaced}
 use Rattle.isolation.specs.Runs.{Alike, Behind, Compared, Given, Places, Protected, answers, driven, run, shown}
-use Rattle.isolation.proofs.Ends.{as-far, ends-alike, struck-unseen}
+use Rattle.isolation.proofs.Ends.{as-far, ends-alike, next-driven, struck-unseen}
 use Rattle.rules.specs.State.{State}
 use Rattle.rules.specs.Machine.{Observed, observed, unit, waiting}
 use Rattle.rules.proofs.Protects.{holds}
@@ -73,6 +73,15 @@ module _ (h : ℕ) (s : State) (A B : List ℕ) (given : Given unit h s A B) (i 
   pub lock-as-far : Behind h A B i j
       → ((k : ℕ) → k ≤ suc j → run unit s (take k B) .core .regs .marq ≡ false) → Compared unit s B (suc j)
   lock-as-far n u = as-far unit holds h s A B given i j a locks n u
+
+-- what the unit drives in a slot of the holder's frames follows from the words before it: behind P and Q, which one slot
+-- w would go on alike, it is the same, whatever words C and D come then
+pub next-alike : (h : ℕ) (s : State) (P Q : List ℕ) (w : ℕ) → Given unit h s (P ++ w ∷ []) (Q ++ w ∷ [])
+    → Places h (P ++ w ∷ []) (Q ++ w ∷ []) (length P) (length Q) → (classOf w ≡ host → ⊥)
+    → Compared unit s (P ++ w ∷ []) (suc (length P)) → Compared unit s (Q ++ w ∷ []) (suc (length Q))
+    → (C D : List ℕ) → driven driveReleased (take (length P) (answers unit s (P ++ C)))
+    ≡ driven driveReleased (take (length Q) (answers unit s (Q ++ D)))
+next-alike = next-driven unit holds
 
 -- ---- the claim without its records
 
