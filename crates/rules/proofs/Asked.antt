@@ -74,8 +74,8 @@ module _ (h : ℕ) (s : State) (A B : List ℕ) (given : Given unit h s A B) (i 
       → ((k : ℕ) → k ≤ suc j → run unit s (take k B) .core .regs .marq ≡ false) → Compared unit s B (suc j)
   lock-as-far n u = as-far unit holds h s A B given i j a locks n u
 
--- what the unit drives in a slot of the holder's frames follows from the words before it: behind P and Q, which one slot
--- w would go on alike, it is the same, whatever words C and D come then
+-- what the unit drives in a slot of the holder's frames follows from the words before it: behind P and Q, which one
+-- slot w would go on alike, it is the same, whatever words C and D come then
 pub next-alike : (h : ℕ) (s : State) (P Q : List ℕ) (w : ℕ) → Given unit h s (P ++ w ∷ []) (Q ++ w ∷ [])
     → Places h (P ++ w ∷ []) (Q ++ w ∷ []) (length P) (length Q) → (classOf w ≡ host → ⊥)
     → Compared unit s (P ++ w ∷ []) (suc (length P)) → Compared unit s (Q ++ w ∷ []) (suc (length Q))
