@@ -4,14 +4,15 @@
 use mathlib.Core.Bool.{Bool, true, false, false≢true}
 use mathlib.Core.Logic.{_⊎_, inl, inr}
 use mathlib.Core.Path.{_≡_, refl, sym, ap, _∙_}
-use mathlib.Core.List.{List, [], _∷_, map}
+use mathlib.Core.List.{List, [], _∷_, _++_, map}
 use Prim.Native.Nat.{ℕ, zero, suc, _≤_, _<_}
 use native.Mathlib.Nat.{eq-or-lt-of-le}
 use native.Mathlib.Omega.{arith}
-use lib.ListN.{take, getD}
-use Rattle.line.specs.Slot.{classOf}
+use lib.ListN.{length, take, getD}
+use Rattle.line.specs.Numbers.{driveReleased}
+use Rattle.line.specs.Slot.{host, classOf}
 use Rattle.isolation.specs.Words.{spaced, count, keeps}
-use Rattle.isolation.specs.Runs.{Machine, Behind, Places, run, Compared, Given, Protected}
+use Rattle.isolation.specs.Runs.{Machine, Behind, Places, answers, driven, run, Compared, Given, Protected}
 use Rattle.isolation.proofs.Unwind.{shorter}
 
 -- ---- counting
@@ -118,3 +119,30 @@ module _ (M : Machine) (protects : Protected M) (h : ℕ) (s : M .State) where
         -- the comparison goes as far in the second list as in the first, unless a master request comes
         pub as-far : Compared M s B (suc j)
         as-far = record { held = held-too (suc j) (omega arith); unasked = u }
+
+-- ---- what is driven next
+
+-- the answers to the first words do not depend on what comes then
+answers-first : (M : Machine) (s : M .State) (P C : List ℕ) → take (length P) (answers M s (P ++ C)) ≡ answers M s P
+unfolding answers
+answers-first M s [] C = refl
+answers-first M s (w ∷ P) C = ap (λ (l : List ℕ). M .answer s w ∷ l) (answers-first M (M .step s w) P C)
+
+-- That the holder's frames are the same is no circle, though what the machine drives is among what settles there: behind
+-- P and Q, which one slot w would go on alike, the same is driven, whatever words C and D come then
+module _ (M : Machine) (protects : Protected M) (h : ℕ) (s : M .State) (P Q : List ℕ) (w : ℕ)
+    (given : Given M h s (P ++ w ∷ []) (Q ++ w ∷ []))
+    (there : Places h (P ++ w ∷ []) (Q ++ w ∷ []) (length P) (length Q)) (n : classOf w ≡ host → ⊥)
+    (a : Compared M s (P ++ w ∷ []) (suc (length P))) (b : Compared M s (Q ++ w ∷ []) (suc (length Q))) where
+  at-end : (l : List ℕ) → getD (l ++ w ∷ []) (length l) 0 ≡ w
+  at-end [] = refl
+  at-end (x ∷ l) = at-end l
+
+  pub next-driven : (C D : List ℕ) → driven driveReleased (take (length P) (answers M s (P ++ C)))
+      ≡ driven driveReleased (take (length Q) (answers M s (Q ++ D)))
+  unfolding Protected
+  next-driven C D =
+      let alike = protects h s (P ++ w ∷ []) (Q ++ w ∷ []) given .slots (length P) (length Q) there a b
+      (λ e. n (sym (ap classOf (at-end P)) ∙ e)) in
+      ap (driven driveReleased) (answers-first M s P C ∙ sym (answers-first M s P (w ∷ []))) ∙ alike
+      ∙ ap (driven driveReleased) (answers-first M s Q (w ∷ []) ∙ sym (answers-first M s Q D))

@@ -5,4 +5,5 @@ pub mod Unwinding
 pub mod Unwind
 pub mod Ends
 pub mod Leaks
+pub mod Pins
 pub mod Smallest

@@ -2,13 +2,15 @@
 -- stranger's frame is seen in them; and the lock goes on as far in both lists.
 use mathlib.Core.Bool.{true, false}
 use mathlib.Core.Path.{_≡_, ap}
-use mathlib.Core.List.{List, map}
-use Prim.Native.Nat.{ℕ, suc, _≤_}
-use lib.ListN.{take, getD}
-use Rattle.line.specs.Slot.{classOf}
-use Rattle.isolation.specs.Words.{keeps, spaced}
-use Rattle.isolation.specs.Runs.{Behind, Compared, Given, Places, run}
-use Rattle.isolation.proofs.Ends.{as-far, ends-alike, struck-unseen}
+use mathlib.Core.List.{List, [], _∷_, _++_, map}
+use Prim.Native.Nat.{ℕ, suc, _≤_, _<_}
+use lib.ListN.{length, take, getD}
+use Rattle.line.specs.Numbers.{driveReleased}
+use Rattle.line.specs.Slot.{classOf, host}
+use Rattle.place.specs.declared.Place.the-variants.{Waiting}
+use Rattle.isolation.specs.Words.{count, keeps, kept, spaced}
+use Rattle.isolation.specs.Runs.{Alike, Behind, Compared, Given, Places, Protected, answers, driven, run, shown}
+use Rattle.isolation.proofs.Ends.{as-far, ends-alike, next-driven, struck-unseen}
 use Rattle.rules.specs.State.{State}
 use Rattle.rules.specs.Machine.{Observed, observed, unit, waiting}
 use Rattle.rules.proofs.Protects.{holds}
@@ -71,3 +73,50 @@ module _ (h : ℕ) (s : State) (A B : List ℕ) (given : Given unit h s A B) (i 
   pub lock-as-far : Behind h A B i j
       → ((k : ℕ) → k ≤ suc j → run unit s (take k B) .core .regs .marq ≡ false) → Compared unit s B (suc j)
   lock-as-far n u = as-far unit holds h s A B given i j a locks n u
+
+-- what the unit drives in a slot of the holder's frames follows from the words before it: behind P and Q, which one
+-- slot w would go on alike, it is the same, whatever words C and D come then
+pub next-alike : (h : ℕ) (s : State) (P Q : List ℕ) (w : ℕ) → Given unit h s (P ++ w ∷ []) (Q ++ w ∷ [])
+    → Places h (P ++ w ∷ []) (Q ++ w ∷ []) (length P) (length Q) → (classOf w ≡ host → ⊥)
+    → Compared unit s (P ++ w ∷ []) (suc (length P)) → Compared unit s (Q ++ w ∷ []) (suc (length Q))
+    → (C D : List ℕ) → driven driveReleased (take (length P) (answers unit s (P ++ C)))
+    ≡ driven driveReleased (take (length Q) (answers unit s (Q ++ D)))
+next-alike = next-driven unit holds
+
+-- ---- the claim without its records
+
+-- how far two lists are compared, said of the registers
+pub record Lasts (s : State) (A : List ℕ) (i : ℕ) : Type 0 where
+  pub locked : (k : ℕ) → k < i → run unit s (take k A) .core .regs .locked ≡ true
+  pub unasked : (k : ℕ) → k ≤ i → run unit s (take k A) .core .regs .marq ≡ false
+
+compared : {s : State} {A : List ℕ} {i : ℕ} → Lasts s A i → Compared unit s A i
+compared l = record { held = l .locked; unasked = l .unasked }
+
+-- Demand 3 of the unit, with every condition and every conclusion spelled out: no condition can be added to `Given`,
+-- `Compared` or `Places`, as a bound on the lists, and nothing left out of `Alike`, but a law here fails
+module _ (s : State) (h : ℕ) (A B : List ℕ) (waits : s .core .frame .spot .place ≡ Waiting)
+    (names : s .core .regs .holder ≡ h) (g : spaced false (map classOf A) ≡ true)
+    (g′ : spaced false (map classOf B) ≡ true) (same : kept h A ≡ kept h B) (i j : ℕ)
+    (behind : count (take i (keeps h A)) ≡ count (take j (keeps h B))) where
+  whole : Alike unit h s A B
+  unfolding Protected
+  whole =
+      holds h s A B record { waits = waits; names = names; spaced-first = g; spaced-second = g′; same = same }
+
+  pub seen-alike : Lasts s A i → Lasts s B j → SameSeen (run unit s (take i A)) (run unit s (take j B))
+  seen-alike a b =
+      observed-all (run unit s (take i A)) (run unit s (take j B))
+      (whole .states i j behind (compared a) (compared b))
+
+  module _ (first : getD (keeps h A) i false ≡ true) (second : getD (keeps h B) j false ≡ true)
+      (a : Lasts s A (suc i)) (b : Lasts s B (suc j)) where
+    pub answer-alike : shown (classOf (getD A i 0)) (getD (answers unit s A) i 0)
+        ≡ shown (classOf (getD B j 0)) (getD (answers unit s B) j 0)
+    answer-alike =
+        whole .replies i j record { first = first; second = second; behind = behind } (compared a) (compared b)
+
+    pub drive-alike : (classOf (getD A i 0) ≡ host → ⊥)
+        → driven driveReleased (take i (answers unit s A)) ≡ driven driveReleased (take j (answers unit s B))
+    drive-alike =
+        whole .slots i j record { first = first; second = second; behind = behind } (compared a) (compared b)
