@@ -221,9 +221,22 @@ registerCases =
     gives wrote (0 ∷ 0 ∷ 4 ∷ 4 ∷ 0 ∷ 0 ∷ 4 ∷ 4 ∷ 4 ∷ 4 ∷ 4 ∷ 4 ∷ 4 ∷ 4 ∷ 4 ∷ 4 ∷ []))
     ∷ (answering (asksToWrite 0x8F) turnedDown
     gives refusals (1 ∷ 2 ∷ 2 ∷ 2 ∷ 3 ∷ 3 ∷ 4 ∷ 4 ∷ 4 ∷ 4 ∷ 4 ∷ 4 ∷ 6 ∷ 6 ∷ 6 ∷ 6 ∷ 6 ∷ 6 ∷ 6 ∷ []))
+    -- 3: each "register not in the list for that direction"
+    ∷ (answering setUp
+    (write 0x7 0 ∷ write 0x8 0 ∷ write 0x9 0 ∷ write 0xA 0 ∷ write 0xB 0 ∷ write 0xC 0 ∷ write 0xD 0 ∷ write 0xF 0 ∷ [])
+    gives refusals (3 ∷ 3 ∷ 3 ∷ 3 ∷ 3 ∷ 3 ∷ 3 ∷ 3 ∷ []))
+    ∷ (answering setUp
+    (read 0x6 ∷ read 0x7 ∷ read 0x9 ∷ read 0xA ∷ read 0xB ∷ read 0xC ∷ read 0xD ∷ read 0xF ∷ [])
+    gives refusals (3 ∷ 3 ∷ 3 ∷ 3 ∷ 3 ∷ 3 ∷ 3 ∷ 3 ∷ []))
+    -- 4: each bit of UAR1 and SAR1 that has to be 0
+    ∷ (answering setUp
+    (write 0x2 0x34 ∷ write 0x2 0x38 ∷ write 0x4 0x61 ∷ write 0x4 0x62 ∷ write 0x4 0x64 ∷ write 0x4 0x68 ∷ [])
+    gives refusals (4 ∷ 4 ∷ 4 ∷ 4 ∷ 4 ∷ 4 ∷ []))
     -- 5, "level 1 while the unit drives 0": it is no slot, and the ACK is still given
     ∷ (answering (setUp ++ from525 ++ field 12 0x123) (1 ∷ 0 ∷ []) gives 0xF000_0005 ∷ 0x8000_0100 ∷ [])
-    -- 6, "UAR with .. SLRE or locked"
+    -- 6, "CMR 08H, 0BH with .. STRQ; UAR with .. STRQ, SLRE or locked"
+    ∷ (answering twoOffered (write 0x1 0x08 ∷ write 0x1 0x0B ∷ write 0x2 0x32 ∷ write 0x3 0x12 ∷ [])
+    gives refusals (6 ∷ 6 ∷ 6 ∷ 6 ∷ []))
     ∷ (answering (setUp ++ write 0x0 0x10 ∷ []) (write 0x2 0x32 ∷ write 0x3 0x12 ∷ []) gives refusals (6 ∷ 6 ∷ []))
     ∷ (answering lockTaken (write 0x2 0x32 ∷ write 0x3 0x12 ∷ []) gives refusals (6 ∷ 6 ∷ []))
     -- 7, "TBF write at 33 bytes"; TFL
