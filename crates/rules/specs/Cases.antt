@@ -1,5 +1,5 @@
 -- The marked cases of this layer, added to those below, and whole stories run by the definitions (`Stories.antt`).
-use mathlib.Core.Bool.{true}
+use mathlib.Core.Bool.{true, false}
 use mathlib.Core.Path.{_≡_, refl}
 use mathlib.Core.List.{List, [], _∷_, _++_}
 use lib.Count.{ones, onesIn}
@@ -32,7 +32,8 @@ use Rattle.rules.specs.Stories.{lockCompleted, stranger6, holder6, conte
 use Rattle.rules.specs.Stories.{lostAnew, heldBack, thirdFrame, cleared, length256, group, general, masterStarts}
 use Rattle.rules.specs.Stories.{masterWants, tooLong, triesOn, outlasted, outlastedBroken, noneTaken, ranEmpty7}
 use Rattle.rules.specs.Stories.{unheard6, takenAnew, comesAgain, twoOffered, twoSent, offerOutlasts, statusAsked}
-use Rattle.rules.specs.Stories.{unheard, from525, readAll, turnedDown, filled, controlsIn, oneOffered}
+use Rattle.rules.specs.Stories.{unheard, from525, readAll, turnedDown, filled, controlsIn, listed, busy}
+use Rattle.rules.specs.Stories.{oneOffered}
 
 -- "master 525H, FH, length 2: RBF begins 52H 5FH 02H"; "status after reset 80H"; the listing's example; the stories
 unfoldable pub unitCases : List Case
@@ -212,6 +213,8 @@ registerCases =
     gives 0xA000_0130 ∷ 0x9000_0100 ∷ 0xA000_0120 ∷ [])
     -- "STR (TFL, TEP, RFL, REP ..)": of so many bytes in TBF and in RBF; no list of words fills RBF
     ∷ (strByte 0 1 ∷ strByte 1 0 ∷ strByte 32 39 ∷ strByte 33 40 ∷ [] gives 0x40 ∷ 0x10 ∷ 0x00 ∷ 0xA0 ∷ [])
+    -- the status byte shows what it names, and nothing else of the registers
+    ∷ (statusByte busy true ∷ statusByte busy false ∷ [] gives 0x80 ∷ 0x82 ∷ [])
     -- an offer brings no code
     ∷ (answering (reception ++ oneOffered) (read 0x8 ∷ []) gives values (0xF6 ∷ []))
     -- "MCR control undefined; MCR broadcast with a read control": FH to 0H, individual and broadcast
@@ -221,6 +224,9 @@ registerCases =
     gives wrote (0 ∷ 0 ∷ 4 ∷ 4 ∷ 0 ∷ 0 ∷ 4 ∷ 4 ∷ 4 ∷ 4 ∷ 4 ∷ 4 ∷ 4 ∷ 4 ∷ 4 ∷ 4 ∷ []))
     ∷ (answering (asksToWrite 0x8F) turnedDown
     gives refusals (1 ∷ 2 ∷ 2 ∷ 2 ∷ 3 ∷ 3 ∷ 4 ∷ 4 ∷ 4 ∷ 4 ∷ 4 ∷ 4 ∷ 6 ∷ 6 ∷ 6 ∷ 6 ∷ 6 ∷ 6 ∷ 6 ∷ []))
+    -- 4, "value not listed": of all 256 values CTR takes three, and CMR four
+    ∷ (listed 0x0 256 gives 0x10 ∷ 0x08 ∷ 0x00 ∷ [])
+    ∷ (listed 0x1 256 gives 0x40 ∷ 0x0F ∷ 0x0B ∷ 0x08 ∷ [])
     -- 3: each "register not in the list for that direction"
     ∷ (answering setUp
     (write 0x7 0 ∷ write 0x8 0 ∷ write 0x9 0 ∷ write 0xA 0 ∷ write 0xB 0 ∷ write 0xC 0 ∷ write 0xD 0 ∷ write 0xF 0 ∷ [])

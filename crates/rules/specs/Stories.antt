@@ -1,14 +1,18 @@
 -- Whole lists of words, as the stories of `Cases.antt` tell them, and what is looked at after them.
+use mathlib.Core.Bool.{true, false}
 use mathlib.Core.List.{List, [], _∷_, _++_}
 use Prim.Native.Nat.{ℕ, zero, suc, _+_, _*_}
+use lib.Dec.{eqb}
 use lib.ListN.{length}
 use Rattle.line.specs.Cases.{Case, _gives_}
-use Rattle.line.specs.Choice.{bitOf}
+use Rattle.line.specs.Choice.{bitOf, pick}
+use Rattle.line.specs.Numbers.{refusedValue}
 use Rattle.place.specs.Cases.{attemptsOf, field, heard, released, spoilt, times}
 pub use Rattle.place.specs.Cases.{answered}
 use Rattle.isolation.specs.Runs.{run, answers}
-use Rattle.rules.specs.State.{State, reset}
-use Rattle.rules.specs.Registers.{flgByte, rcrByte}
+use Rattle.rules.specs.declared.state.Registers.{Registers}
+use Rattle.rules.specs.State.{State, reset, resetRegisters}
+use Rattle.rules.specs.Registers.{flgByte, rcrByte, writeRefusal}
 use Rattle.rules.specs.Machine.{unit}
 
 -- ---- words
@@ -358,6 +362,37 @@ filled n = times n (write 0xE 0x55 ∷ [])
 abbrev pub controlsIn : ℕ → ℕ → List ℕ
 controlsIn upper zero = []
 controlsIn upper (suc n) = write 0x6 (upper + n) ∷ controlsIn upper n
+
+-- of the values below a number those that a register lists, the highest first
+abbrev pub listed : ℕ → ℕ → List ℕ
+listed register zero = []
+listed register (suc v) =
+    pick (eqb (writeRefusal resetRegisters 2 register v) refusedValue) (listed register v) (v ∷ listed register v)
+
+-- registers in which all is set but what the status byte shows
+abbrev pub busy : Registers
+busy =
+    record {
+      own = 0xFFF;
+      enabled = false;
+      long = true;
+      slave = 0xFFF;
+      bit = true;
+      retries = 7;
+      control = 0xF;
+      marq = true;
+      strq = false;
+      slre = true;
+      losses = 7;
+      lor1 = 0xFF;
+      lor2 = 0x1F;
+      rdr1 = 40;
+      rdr2 = 40;
+      marc = 0xF;
+      slrc = 0xF;
+      locked = false;
+      holder = 0xFFF;
+    }
 
 -- an offer of one byte
 abbrev pub oneOffered : List ℕ
