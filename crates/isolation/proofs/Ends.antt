@@ -128,8 +128,8 @@ unfolding answers
 answers-first M s [] C = refl
 answers-first M s (w ∷ P) C = ap (λ (l : List ℕ). M .answer s w ∷ l) (answers-first M (M .step s w) P C)
 
--- That the holder's frames are the same is no circle, though what the machine drives is among what settles there: behind
--- P and Q, which one slot w would go on alike, the same is driven, whatever words C and D come then
+-- That the holder's frames are the same is no circle, though what the machine drives is among what settles there:
+-- behind P and Q, which one slot w would go on alike, the same is driven, whatever words C and D come then
 module _ (M : Machine) (protects : Protected M) (h : ℕ) (s : M .State) (P Q : List ℕ) (w : ℕ)
     (given : Given M h s (P ++ w ∷ []) (Q ++ w ∷ []))
     (there : Places h (P ++ w ∷ []) (Q ++ w ∷ []) (length P) (length Q)) (n : classOf w ≡ host → ⊥)
