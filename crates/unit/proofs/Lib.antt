@@ -1,0 +1,2 @@
+-- The law that the proof of a step rests on.
+pub mod Refusal
