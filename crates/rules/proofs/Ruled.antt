@@ -347,7 +347,7 @@ abbrev isGiven : Ruling → Bool
 isGiven accepted = true
 isGiven (refused n) = false
 
-given-is-none : (reply : Reply) (n : ℕ) → Given reply ≡ Refused n → ⊥
+pub given-is-none : (reply : Reply) (n : ℕ) → Given reply ≡ Refused n → ⊥
 given-is-none reply n e = subst T (ap (λ (a : Answer). isGiven (rulingOf a)) e) tt
 
 told-unchanged : (s t : State) (told : Told) (n : ℕ) → toldSaid t told ≡ Refused n → toldOn s told ≡ s

@@ -1,15 +1,14 @@
 -- "A refusal changes no state", of the unit whole: each place of its arrays stays too, held or not.
 use Prim.Native.Nat.{ℕ}
 use mathlib.Core.Bool.{Bool, true, false}
-use mathlib.Core.Path.{_≡_, refl, sym, ap, _∙_, subst}
-use lib.Dec.{T}
+use mathlib.Core.Path.{_≡_, refl, sym, ap, _∙_}
 use Rattle.line.specs.Choice.{pick}
 use Rattle.line.specs.Slot.{Class, slot, host, classOf}
 use Rattle.line.specs.declared.slot.Slot.{Slot}
 use Rattle.line.specs.declared.slot.Slot.the-variants.{Level, Start, Idle, Stray}
 use Rattle.lent.specs.Both.{buffersIn, leftBy}
 use Rattle.lent.specs.Buffers.{Buffers, slotIn, toldIn, wordAs, wordIn}
-use Rattle.rules.proofs.Ruled.{refused-unchanged}
+use Rattle.rules.proofs.Ruled.{given-is-none, refused-unchanged}
 use Rattle.rules.specs.Registers.{Told, wrote, restarted, gave, denied, registerOf, toldOf, valueOf}
 use Rattle.rules.specs.State.{State}
 use Rattle.rules.specs.Step.{answerOf, clashes, saidAs, slotSaid, stepOf, toldSaid}
@@ -19,13 +18,6 @@ use Rattle.rules.specs.declared.answer.Reply.{Reply}
 use Rattle.rules.specs.declared.state.Core.{Core}
 use Rattle.unit.specs.Unit.{lentOf, stateOf, unitBy}
 use Rattle.unit.specs.declared.step.Unit.{Unit}
-
-abbrev isGiven : Answer → Bool
-isGiven (Given reply) = true
-isGiven (Refused n) = false
-
-given-is-none : (reply : Reply) (n : ℕ) → Given reply ≡ Refused n → ⊥
-given-is-none reply n e = subst T (ap isGiven e) tt
 
 -- ---- the arrays and their spans
 
