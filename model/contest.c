@@ -15,10 +15,19 @@ static bool out_of_range(const struct contender *c)
     return c->broadcast > 1 || c->address > MAX_ADDRESS;
 }
 
-/* "15: two contenders alike in bit and address; names the place of one of them" */
+/* "15: two contenders alike in bit and address" */
 static bool alike(const struct contender *a, const struct contender *b)
 {
     return a->broadcast == b->broadcast && a->address == b->address;
+}
+
+/* Ticket 6, of number 15: "It shall name the lowest place whose contender occurs again later." */
+static bool occurs_again_later(const struct contender *c, size_t len, size_t place)
+{
+    for (size_t later = place + 1; later < len; later++)
+        if (alike(&c[place], &c[later]))
+            return true;
+    return false;
 }
 
 /* "The lowest number wins"; reading 34: 12 before 13 before 14 before 15. */
@@ -32,9 +41,8 @@ static struct contest_result check(const struct contender *c, size_t len, size_t
         if (out_of_range(&c[i]))
             return (struct contest_result){REFUSED_CONTENDER, i};
     for (size_t i = 0; i < len; i++)
-        for (size_t j = i + 1; j < len; j++)
-            if (alike(&c[i], &c[j]))
-                return (struct contest_result){REFUSED_ALIKE, i};
+        if (occurs_again_later(c, len, i))
+            return (struct contest_result){REFUSED_ALIKE, i};
     return (struct contest_result){TAKEN, 0};
 }
 

@@ -13,7 +13,8 @@ struct contender {
     uint32_t address;
 };
 
-/* refusal 0: place is the winner's. 14 and 15: place is that of the contender refused. 12 and 13: place is 0. */
+/* refusal 0: place is the winner's. 14: it is that of the first contender out of range. 15: it is the lowest whose
+   contender occurs again later. 12 and 13: it is 0. */
 struct contest_result {
     enum refusal refusal;
     size_t place;

@@ -1,5 +1,5 @@
-/* The proved contest, from C: what document 01 marks, each refusal with its place, and random lists against the second
-   model. Prints "ok NAME" or "FAILED NAME: why" for each test. */
+/* The proved contest, from C: what document 01 marks, each refusal with its place, that of number 15 as ticket 6 has
+   it, and random lists against the second model. Prints "ok NAME" or "FAILED NAME: why" for each test. */
 #include <stdbool.h>
 #include <stdio.h>
 #include <string.h>
@@ -16,6 +16,8 @@ enum {
     UNTOUCHED = 0xA5A5,
     SPARE = 5,
     RANDOM_LISTS = 400000,
+    /* how often the random lists must reach each outcome and each kind of list, lest the comparison become hollow */
+    ENOUGH = 5000,
 };
 
 static bool any_failed;
@@ -77,19 +79,6 @@ static bool kept_behind(const struct trial *t)
     return true;
 }
 
-/* Number 15 names a place whose contender has another alike; which of them is left open. */
-static bool names_a_twin(const struct trial *t)
-{
-    size_t place = iebus_contest_place(t->result);
-    if (iebus_contest_refusal(t->result) != 15 || place >= t->len)
-        return false;
-    for (size_t i = 0; i < t->len; i++)
-        if (i != place && t->records[i].bit == t->records[place].bit &&
-            t->records[i].address == t->records[place].address)
-            return true;
-    return false;
-}
-
 /* "0FFH beats 100H, which loses in slot 6; broadcast FFFH beats ordinary 000H, which loses in slot 2" */
 static void marked_cases(void)
 {
@@ -144,13 +133,50 @@ static void refused_places(void)
     t.records[0].bit = 255;
     run(&t);
     check("number 13 comes before number 14", refused(&t, 13, 0) && wrote_nothing(&t));
+}
+
+/* Ticket 6, of number 15: "It shall name the lowest place whose contender occurs again later." Each list tells a
+   misreading of it apart; the letters in the names are contenders. */
+static const struct alike_list {
+    const char *name;
+    struct iebus_contender records[6];
+    size_t len;
+    unsigned number, place;
+} alike_lists[] = {
+    {"number 15 names the earlier one of its pair", {{1, 9}, {0, 5}, {1, 5}, {0, 5}}, 4, 15, 1},
+    {"number 15 names a of a b b a, though b b closes first", {{1, 9}, {0, 5}, {0, 5}, {1, 9}}, 4, 15, 0},
+    {"number 15 names a of a b c b a c", {{1, 9}, {0, 5}, {1, 5}, {0, 5}, {1, 9}, {1, 5}}, 6, 15, 0},
+    {"number 15 names the first a of a a b b", {{1, 9}, {1, 9}, {0, 5}, {0, 5}}, 4, 15, 0},
+    {"number 15 names a of a b a, the only pair", {{1, 9}, {0, 5}, {1, 9}}, 3, 15, 0},
+    {"number 15 names the first b of a b b b", {{1, 9}, {0, 5}, {0, 5}, {0, 5}}, 4, 15, 1},
+    {"number 15 names the last but one of a b c d d", {{1, 9}, {0, 5}, {1, 5}, {0, 9}, {0, 9}}, 5, 15, 3},
+    {"number 15 passes over two alike by address alone", {{1, 5}, {0, 5}, {1, 6}, {1, 6}}, 4, 15, 2},
+    {"number 15 passes over two alike by bit alone", {{1, 5}, {1, 6}, {0, 7}, {0, 7}}, 4, 15, 2},
+    {"number 14 comes before number 15 between two alike", {{1, 5}, {2, 5}, {1, 5}}, 3, 14, 1},
+    {"number 14 comes before number 15 behind two alike", {{1, 5}, {1, 5}, {1, 0x1000}}, 3, 14, 2},
+    {"number 14 comes before number 15 where those alike are out of range", {{1, 5}, {2, 6}, {2, 6}}, 3, 14, 1},
+};
+
+static void alike_places(void)
+{
+    for (size_t i = 0; i < sizeof alike_lists / sizeof *alike_lists; i++) {
+        const struct alike_list *a = &alike_lists[i];
+        struct trial t = {.len = a->len, .lost_len = a->len};
+        memcpy(t.records, a->records, sizeof a->records);
+        run(&t);
+        check(a->name, refused(&t, a->number, a->place) && wrote_nothing(&t));
+    }
+    struct trial t = {.records = {{1, 5}, {0, 5}}, .len = 2, .lost_len = 2};
+    run(&t);
+    check("two alike by address alone are no number 15", t.result == 1 && t.lost[0] == 2 && t.lost[1] == 0);
     t = fair_trial(50, 50);
-    t.records[49] = t.records[3];
+    t.records[49] = t.records[48];
     run(&t);
-    check("two alike are refused with number 15 and a place", names_a_twin(&t) && wrote_nothing(&t));
-    t.records[20].address = 0xFFFF;
+    check("number 15 names place 48 where the last two of 50 are alike", refused(&t, 15, 48) && wrote_nothing(&t));
+    t.records[49] = t.records[0];
     run(&t);
-    check("number 14 comes before number 15", refused(&t, 14, 20) && wrote_nothing(&t));
+    check("number 15 names place 0 where the first and the last of 50 are alike",
+          refused(&t, 15, 0) && wrote_nothing(&t));
 }
 
 /* xorshift64*: the same lists in every run */
@@ -184,7 +210,23 @@ static struct trial random_trial(void)
     return t;
 }
 
-/* What the second model says, with number 15's place judged by its property. */
+/* 50 records of which two are alike and no others, the last record in half of the lists: a list drawn from 4,096
+   addresses seldom has such a pair. An odd step keeps the 13 bits of a record apart from those of all others, and a
+   step of 1 gives each address both broadcast bits. */
+static struct trial one_pair_trial(void)
+{
+    struct trial t = {.len = 50, .lost_len = 50 + draw(SPARE + 1)};
+    uint32_t base = draw(0x2000), step = draw(2) ? 1 : 1 + 2 * draw(0x1000);
+    for (uint32_t i = 0; i < t.len; i++) {
+        uint32_t bits = (base + i * step) % 0x2000;
+        t.records[i] = (struct iebus_contender){(uint8_t)(bits & 1), (uint16_t)(bits >> 1)};
+    }
+    uint32_t later = draw(2) ? 49 : 1 + draw(49);
+    t.records[later] = t.records[draw(later)];
+    return t;
+}
+
+/* Everything that comes out is the second model's. */
 static bool like_the_model(const struct trial *t)
 {
     struct contender records[MOST_RECORDS];
@@ -195,24 +237,92 @@ static bool like_the_model(const struct trial *t)
     struct contest_result model = model_contest(records, t->len, lost, t->lost_len);
     if (memcmp(lost, t->lost, sizeof lost))
         return false;
-    return model.refusal == REFUSED_ALIKE ? names_a_twin(t) : refused(t, model.refusal, (unsigned)model.place);
+    return refused(t, model.refusal, (unsigned)model.place);
+}
+
+static bool alike(const struct trial *t, size_t a, size_t b)
+{
+    return t->records[a].bit == t->records[b].bit && t->records[a].address == t->records[b].address;
+}
+
+/* The next place whose record is alike; the list's length if there is none. */
+static size_t next_alike(const struct trial *t, size_t place)
+{
+    size_t later = place + 1;
+    while (later < t->len && !alike(t, place, later))
+        later++;
+    return later;
+}
+
+/* The lowest place whose record stands at a lower one too, where the first pair closes. */
+static size_t first_repetition(const struct trial *t)
+{
+    for (size_t later = 1; later < t->len; later++)
+        for (size_t i = 0; i < later; i++)
+            if (alike(t, i, later))
+                return later;
+    return t->len;
+}
+
+static bool address_with_both_bits_before(const struct trial *t, size_t place)
+{
+    for (size_t later = 1; later < place; later++)
+        for (size_t i = 0; i < later; i++)
+            if (t->records[i].address == t->records[later].address && t->records[i].bit != t->records[later].bit)
+                return true;
+    return false;
+}
+
+/* How many lists with number 15 were of each kind that some misreading answers with another place, or takes. */
+struct alike_kinds {
+    unsigned long past_place_0, another_closes_first, three_alike, only_with_the_50th, behind_both_bits;
+};
+
+static void count_alike(struct alike_kinds *kinds, const struct trial *t)
+{
+    size_t place = iebus_contest_place(t->result), again = next_alike(t, place), closes = first_repetition(t);
+    kinds->past_place_0 += place > 0;
+    kinds->another_closes_first += closes < again;
+    kinds->three_alike += again < t->len && next_alike(t, again) < t->len;
+    kinds->only_with_the_50th += t->len == 50 && closes == 49;
+    kinds->behind_both_bits += address_with_both_bits_before(t, place);
+}
+
+static void check_alike_kinds(const struct alike_kinds *kinds)
+{
+    check("number 15 names a place past 0 over 5,000 times", kinds->past_place_0 > ENOUGH);
+    check("another pair than that of number 15 closes first over 5,000 times", kinds->another_closes_first > ENOUGH);
+    check("number 15 is for three alike over 5,000 times", kinds->three_alike > ENOUGH);
+    check("the only pair of 50 has the last of them over 5,000 times", kinds->only_with_the_50th > ENOUGH);
+    check("before number 15's place an address has both bits over 5,000 times", kinds->behind_both_bits > ENOUGH);
+    printf("number 15: %lu past place 0, %lu where another pair closes first, %lu for three alike, "
+           "%lu by the last of 50 alone, %lu behind an address with both bits\n", kinds->past_place_0,
+           kinds->another_closes_first, kinds->three_alike, kinds->only_with_the_50th, kinds->behind_both_bits);
 }
 
 static void random_lists(void)
 {
     unsigned long reached[16] = {0};
-    bool alike = true;
-    for (long i = 0; i < RANDOM_LISTS && alike; i++) {
-        struct trial t = random_trial();
+    struct alike_kinds kinds = {0};
+    bool same = true;
+    for (long i = 0; i < RANDOM_LISTS && same; i++) {
+        struct trial t = draw(16) ? random_trial() : one_pair_trial();
         run(&t);
-        alike = like_the_model(&t);
+        same = like_the_model(&t);
         reached[iebus_contest_refusal(t.result) & 15]++;
+        if (same && iebus_contest_refusal(t.result) == 15)
+            count_alike(&kinds, &t);
     }
-    check("400,000 random lists of 0 to 60 records come out as in the second model", alike);
+    check("400,000 random lists of 0 to 60 records come out as in the second model", same);
+    /* the lists have been counted up to the first difference */
+    if (!same)
+        return;
     check("the random lists reach a winner and each refusal over 5,000 times",
-          reached[0] > 5000 && reached[12] > 5000 && reached[13] > 5000 && reached[14] > 5000 && reached[15] > 5000);
+          reached[0] > ENOUGH && reached[12] > ENOUGH && reached[13] > ENOUGH && reached[14] > ENOUGH &&
+          reached[15] > ENOUGH);
     printf("%lu won, %lu short, %lu wrong counts, %lu out of range, %lu alike\n", reached[0], reached[12], reached[13],
            reached[14], reached[15]);
+    check_alike_kinds(&kinds);
 }
 
 int main(void)
@@ -221,6 +331,7 @@ int main(void)
     counts();
     short_lists();
     refused_places();
+    alike_places();
     random_lists();
     return any_failed;
 }

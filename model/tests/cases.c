@@ -1,4 +1,4 @@
-/* The cases that document 01 lists under "Proved and run cases", and refusals 11 to 15. */
+/* The cases that document 01 lists under "Proved and run cases", and refusals 11 to 15, the last as ticket 6 has it. */
 #include <string.h>
 
 #include "../contest.h"
@@ -27,7 +27,7 @@ static void contest_cases(void)
 }
 
 static bool refused_untouched(const struct contender *c, size_t len, size_t numbers_len, enum refusal number,
-                              size_t first, size_t second)
+                              size_t place)
 {
     uint32_t numbers[MAX_CONTENDERS + 1];
     for (size_t i = 0; i <= MAX_CONTENDERS; i++)
@@ -36,7 +36,7 @@ static bool refused_untouched(const struct contender *c, size_t len, size_t numb
     for (size_t i = 0; i <= MAX_CONTENDERS; i++)
         if (numbers[i] != UNTOUCHED)
             return false;
-    return r.refusal == number && (r.place == first || r.place == second);
+    return r.refusal == number && r.place == place;
 }
 
 static void contest_refusals(void)
@@ -48,14 +48,58 @@ static void contest_refusals(void)
     struct contest_result r = model_contest(many, MAX_CONTENDERS, numbers, MAX_CONTENDERS);
     report("50 contenders taken", r.refusal == TAKEN && r.place == 48 && numbers[48] == 0 && numbers[49] == 2,
            "refused, or another winner");
-    report("51 contenders refused by 13", refused_untouched(many, 51, 51, REFUSED_CONTENDERS, 0, 0), "not so");
-    report("no contender refused by 13", refused_untouched(many, 0, 0, REFUSED_CONTENDERS, 0, 0), "not so");
-    report("12 comes before 13", refused_untouched(many, 51, 50, REFUSED_SHORT_LIST, 0, 0), "not so");
+    report("51 contenders refused by 13", refused_untouched(many, 51, 51, REFUSED_CONTENDERS, 0), "not so");
+    report("no contender refused by 13", refused_untouched(many, 0, 0, REFUSED_CONTENDERS, 0), "not so");
+    report("12 comes before 13", refused_untouched(many, 51, 50, REFUSED_SHORT_LIST, 0), "not so");
     struct contender wide[] = {{1, 5}, {1, 5}, {2, 0}, {1, 0x1000}};
-    report("14 names the first and comes before 15", refused_untouched(wide, 4, 4, REFUSED_CONTENDER, 2, 2), "not so");
-    report("14 for an address", refused_untouched(wide + 3, 1, 1, REFUSED_CONTENDER, 0, 0), "not so");
-    struct contender same[] = {{1, 9}, {0, 5}, {1, 5}, {0, 5}};
-    report("15 names one of those alike", refused_untouched(same, 4, 4, REFUSED_ALIKE, 1, 3), "not so");
+    report("14 names the first and comes before 15", refused_untouched(wide, 4, 4, REFUSED_CONTENDER, 2), "not so");
+    report("14 for an address", refused_untouched(wide + 3, 1, 1, REFUSED_CONTENDER, 0), "not so");
+}
+
+/* Short lists that tell the misreadings of number 15 apart; the letters in the names are contenders. */
+static const struct alike_list {
+    const char *name;
+    struct contender list[6];
+    size_t len;
+    enum refusal number;
+    size_t place;
+} alike_lists[] = {
+    {"15 names the earlier one of its pair", {{1, 9}, {0, 5}, {1, 5}, {0, 5}}, 4, REFUSED_ALIKE, 1},
+    {"15 names a of a b b a, though b b closes first", {{1, 9}, {0, 5}, {0, 5}, {1, 9}}, 4, REFUSED_ALIKE, 0},
+    {"15 names a of a b c b a c", {{1, 9}, {0, 5}, {1, 5}, {0, 5}, {1, 9}, {1, 5}}, 6, REFUSED_ALIKE, 0},
+    {"15 names the first a of a a b b", {{1, 9}, {1, 9}, {0, 5}, {0, 5}}, 4, REFUSED_ALIKE, 0},
+    {"15 names a of a b a, the only pair", {{1, 9}, {0, 5}, {1, 9}}, 3, REFUSED_ALIKE, 0},
+    {"15 names the first b of a b b b", {{1, 9}, {0, 5}, {0, 5}, {0, 5}}, 4, REFUSED_ALIKE, 1},
+    {"15 names the last but one of a b c d d", {{1, 9}, {0, 5}, {1, 5}, {0, 9}, {0, 9}}, 5, REFUSED_ALIKE, 3},
+    {"15 passes over two alike by address alone", {{1, 5}, {0, 5}, {1, 6}, {1, 6}}, 4, REFUSED_ALIKE, 2},
+    {"15 passes over two alike by bit alone", {{1, 5}, {1, 6}, {0, 7}, {0, 7}}, 4, REFUSED_ALIKE, 2},
+    {"14 comes before 15 between the two alike", {{1, 5}, {2, 5}, {1, 5}}, 3, REFUSED_CONTENDER, 1},
+    {"14 comes before 15 where those alike are out of range", {{1, 5}, {1, 0x1000}, {1, 0x1000}}, 3,
+     REFUSED_CONTENDER, 1},
+};
+
+static void alike_cases(void)
+{
+    for (size_t i = 0; i < sizeof alike_lists / sizeof *alike_lists; i++) {
+        const struct alike_list *a = &alike_lists[i];
+        report(a->name, refused_untouched(a->list, a->len, a->len, a->number, a->place), "not so");
+    }
+    uint32_t numbers[2];
+    struct contender address_alone[] = {{1, 5}, {0, 5}}, bit_alone[] = {{1, 5}, {1, 6}};
+    struct contest_result r = model_contest(address_alone, 2, numbers, 2);
+    report("15 is not for two alike by address alone", r.refusal == TAKEN && r.place == 1, "not so");
+    r = model_contest(bit_alone, 2, numbers, 2);
+    report("15 is not for two alike by bit alone", r.refusal == TAKEN && r.place == 0, "not so");
+    struct contender many[MAX_CONTENDERS];
+    for (uint32_t i = 0; i < MAX_CONTENDERS; i++)
+        many[i] = (struct contender){i % 2, 0x800 - i};
+    many[49] = many[48];
+    report("15 names place 48 where the last two of 50 are alike",
+           refused_untouched(many, 50, 50, REFUSED_ALIKE, 48), "not so");
+    report("12 comes before 15", refused_untouched(many, 50, 49, REFUSED_SHORT_LIST, 0), "not so");
+    many[49] = many[0];
+    report("15 names place 0 where the first and the last of 50 are alike",
+           refused_untouched(many, 50, 50, REFUSED_ALIKE, 0), "not so");
 }
 
 static void byte_run_cases(void)
@@ -127,6 +171,7 @@ void known_cases(void)
            && SLOTS_BEFORE_DATA + SLOTS_PER_ATTEMPT * ATTEMPTS_MODE_1 == 365, "another count");
     contest_cases();
     contest_refusals();
+    alike_cases();
     byte_run_cases();
     buffer_cases();
     traffic_case();
