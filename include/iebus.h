@@ -80,7 +80,7 @@ struct iebus_contender {
     12 IEBUS_REFUSED_SHORT_LIST       `lost` is shorter than the list of contenders; place 0
     13 IEBUS_REFUSED_CONTENDER_COUNT  no contender, or more than 50; place 0
     14 IEBUS_REFUSED_CONTENDER_RANGE  a bit over 1 or an address over FFFH; the place of the first
-    15 IEBUS_REFUSED_CONTENDERS_ALIKE two alike in bit and address; the place of one of them
+    15 IEBUS_REFUSED_CONTENDERS_ALIKE two alike in bit and address; the lowest place whose contender occurs again later
    The lowest number that applies is given, and then nothing is written. */
 uint32_t iebus_contest(const struct iebus_contender *contenders, size_t contenders_len, uint32_t *lost,
                        size_t lost_len);

@@ -210,12 +210,13 @@ static bool contest_comes_apart(void)
     uint32_t held = iebus_contest(both, 2, lost, 4);
     bool holds = iebus_contest_refusal(held) == 0 && iebus_contest_place(held) == 1 && lost[0] == 6 && lost[1] == 0
                  && lost[2] == 99;
-    const struct iebus_contender alike[] = {{1, 0x100}, {1, 0x100}};
+    const struct iebus_contender alike[] = {{0, 0x100}, {1, 0x100}, {1, 0x0FF}, {1, 0x0FF}, {1, 0x100}};
+    uint32_t numbers[5], pairs = iebus_contest(alike, 5, numbers, 5);
     uint32_t range = iebus_contest(both, 4, lost, 4);
     return holds && iebus_contest_refusal(iebus_contest(both, 4, lost, 3)) == IEBUS_REFUSED_SHORT_LIST
            && iebus_contest_refusal(iebus_contest(both, 0, lost, 4)) == IEBUS_REFUSED_CONTENDER_COUNT
            && iebus_contest_refusal(range) == IEBUS_REFUSED_CONTENDER_RANGE && iebus_contest_place(range) == 2
-           && iebus_contest_refusal(iebus_contest(alike, 2, lost, 2)) == IEBUS_REFUSED_CONTENDERS_ALIKE;
+           && iebus_contest_refusal(pairs) == IEBUS_REFUSED_CONTENDERS_ALIKE && iebus_contest_place(pairs) == 1;
 }
 
 int main(void)

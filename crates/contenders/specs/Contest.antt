@@ -1,9 +1,9 @@
--- Document 01, "The contest", and the refusals 12 to 15.
-use mathlib.Core.Bool.{Bool, true, not, _&&_}
+-- Document 01, "The contest", and the refusals 12 to 15, the last as ticket 6 has it.
+use mathlib.Core.Bool.{Bool, not, _&&_}
 use mathlib.Core.Path.{_≡_}
 use mathlib.Core.Logic.{_⊎_}
 use mathlib.Core.List.{List, [], _∷_, _++_, map}
-use Prim.Native.Nat.{ℕ, zero, suc, _+_, _-_, _*_, _≤_, _<_, min}
+use Prim.Native.Nat.{ℕ, zero, suc, _+_, _-_, _*_, _/_, _%_, _≤_, _<_, min}
 use lib.Dec.{eqb, leb, ltb}
 use lib.ListN.{length, drop, getD, set, replicate}
 use Rattle.line.specs.Choice.{pick}
@@ -70,18 +70,10 @@ alike c d = eqb (c .bit) (d .bit) && eqb (c .address) (d .address)
 abbrev pub firstAlikeFrom : Contender → ℕ → List Contender → ℕ
 firstAlikeFrom c from cs = from + firstPlace (alike c) (drop from cs)
 
--- the first contender that has another alike behind it, the length where no two are alike
+-- "the lowest place whose contender occurs again later", the length where none does
 unfoldable pub firstTwin : List Contender → ℕ
 firstTwin [] = 0
 firstTwin (c ∷ cs) = pick (ltb (firstPlace (alike c) cs) (length cs)) 0 (firstTwin cs + 1)
-
--- "the place of one of them": a contender with another alike in bit and address. Which of them is left open
-pub record Twin (cs : List Contender) (place : ℕ) : Type 0 where
-  pub within : place < length cs
-  pub other : ℕ
-  pub other-within : other < length cs
-  pub apart : other ≡ place → ⊥
-  pub same : alike (getD cs place nobody) (getD cs other nobody) ≡ true
 
 -- ---- The slots 2 to 14
 
@@ -128,34 +120,32 @@ verdictOf WrongCount = record { number = refusedContenderCount; place = 0 }
 verdictOf (OutOfRange p) = record { number = refusedContenderRange; place = p }
 verdictOf (Alike p) = record { number = refusedContendersAlike; place = p }
 
--- what a contest comes to, "the lowest number wins". `twin` is the place that number 15 names, which is left open
-unfoldable pub contestOf : List Contender → List ℕ → ℕ → Outcome
-contestOf cs numbers twin =
+-- what a contest comes to, "the lowest number wins"
+unfoldable pub contestOf : List Contender → List ℕ → Outcome
+contestOf cs numbers =
     pick (ltb (length numbers) (length cs)) ShortList
     (pick (eqb (length cs) 0) WrongCount
     (pick (ltb mostContenders (length cs)) WrongCount
     (pick (ltb (firstOut cs) (length cs)) (OutOfRange (firstOut cs))
-    (pick (ltb (firstTwin cs) (length cs)) (Alike twin) (Winner (winnerOf cs))))))
+    (pick (ltb (firstTwin cs) (length cs)) (Alike (firstTwin cs)) (Winner (winnerOf cs))))))
 
 -- the number list afterwards: "11 and above write nothing"; places past the contenders keep their contents
 unfoldable pub numbersAfter : List Contender → List ℕ → Verdict → List ℕ
 numbersAfter cs numbers v = pick (eqb (v .number) 0) (lossesOf cs ++ drop (length cs) numbers) numbers
 
--- the whole outcome of a contest over a number list; only number 15's place is given by its property
+-- the whole outcome of a contest over a number list
 pub record Contested (cs : List Contender) (numbers : List ℕ) (r : Outcome) (after : List ℕ) : Type 0 where
-  pub twin : ℕ
-  pub named : firstTwin cs < length cs → Twin cs twin
-  pub verdict : verdictOf r ≡ verdictOf (contestOf cs numbers twin)
+  pub outcome : r ≡ contestOf cs numbers
   pub written : after ≡ numbersAfter cs numbers (verdictOf r)
 
--- ---- What the slots come to: "a broadcast beats an ordinary frame, then the lowest address wins"
+-- ---- What the places that are named come to
 
 -- c comes before d: a broadcast (0) before an ordinary frame, then the lower address
 abbrev pub Before : Contender → Contender → Type 0
 Before c d = (c .bit < d .bit) ⊎ ((c .bit ≡ d .bit) × (c .address < d .address))
 
--- the contender at a place has lost in no slot, comes before every other one, and each other one has lost in some
--- slot
+-- "a broadcast beats an ordinary frame, then the lowest address wins": the contender at a place has lost in no slot,
+-- comes before every other one, and each other one has lost in some slot
 pub record Wins (cs : List Contender) (place : ℕ) : Type 0 where
   pub within : place < length cs
   pub unbeaten : getD (lossesOf cs) place 0 ≡ 0
@@ -163,26 +153,36 @@ pub record Wins (cs : List Contender) (place : ℕ) : Type 0 where
   pub alone : (i : ℕ) → i < length cs → (i ≡ place → ⊥)
       → (2 ≤ getD (lossesOf cs) i 0) × (getD (lossesOf cs) i 0 ≤ lastContestSlot)
 
--- where a contest has a winner, it is the least of all and alone
-abbrev pub WonRightly : List Contender → Outcome → Type 0
-WonRightly cs r = verdictOf r .number ≡ 0 → Wins cs (verdictOf r .place)
+-- the contender at a place occurs again later
+pub record OccursAgain (cs : List Contender) (place : ℕ) : Type 0 where
+  pub later : ℕ
+  pub behind : place < later
+  pub later-within : later < length cs
+  pub same : getD cs later nobody ≡ getD cs place nobody
+
+-- "the lowest place whose contender occurs again later"
+pub record LowestAgain (cs : List Contender) (place : ℕ) : Type 0 where
+  pub within : place < length cs
+  pub again : OccursAgain cs place
+  pub lowest : (i : ℕ) → i < place → OccursAgain cs i → ⊥
+
+-- the place beside a verdict's number: the winner's, in a list where nobody occurs twice, or number 15's. Number 14's
+-- is `firstOut`
+pub record NamedRightly (cs : List Contender) (v : Verdict) : Type 0 where
+  pub winner : v .number ≡ 0 → Wins cs (v .place)
+  pub unlike : v .number ≡ 0 → (i : ℕ) → OccursAgain cs i → ⊥
+  pub twin : v .number ≡ refusedContendersAlike → LowestAgain cs (v .place)
 
 -- ---- For a host in C, which gets one number and no enum
 
--- a number of two halves holds a verdict: the refusal's number above, the place below
+-- the verdict that it reads off: the refusal's number in the upper half, the place in the lower
 abbrev pub wordHalf : ℕ
 wordHalf = 65536
 
-abbrev pub verdictWord : Verdict → ℕ
-verdictWord v = v .number * wordHalf + v .place
+abbrev pub verdictIn : ℕ → Verdict
+verdictIn word = record { number = word / wordHalf; place = word % wordHalf }
 
--- the whole outcome of a contest, told by a number. A place that is named is one of at most 50, so it fits its half
+-- the whole outcome of a contest, told by a number
 pub record ContestedWord (cs : List Contender) (numbers : List ℕ) (word : ℕ) (after : List ℕ) : Type 0 where
-  pub outcome : Outcome
-  pub contested : Contested cs numbers outcome after
-  pub told : word ≡ verdictWord (verdictOf outcome)
-  pub fits : verdictOf outcome .place < mostContenders
-
--- a number with nothing in its upper half is the winner's place
-abbrev pub WonByWord : List Contender → ℕ → Type 0
-WonByWord cs word = word < wordHalf → Wins cs word
+  pub verdict : verdictIn word ≡ verdictOf (contestOf cs numbers)
+  pub written : after ≡ numbersAfter cs numbers (verdictIn word)

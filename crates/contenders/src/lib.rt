@@ -21,8 +21,8 @@ pub struct Contenders {
     pub list: [Contender; MOST_CONTENDERS],
 }
 
-// How a contest ends: with the winner's place, or refused. A place out of range is the first; one alike has another
-// contender with the same bit and address.
+// How a contest ends: with the winner's place, or refused. A place out of range is the first; one alike is the lowest
+// whose contender occurs again later.
 pub enum Outcome {
     Winner(usize),
     ShortList,

@@ -1,18 +1,19 @@
 -- Places in a list of contenders: what a search that goes from place to place has found, and who stands where.
 use mathlib.Core.Bool.{Bool, true, false}
-use mathlib.Core.Logic.{_⊎_, ⊎-elim}
-use mathlib.Core.Path.{_≡_, refl, ap, _∙_}
+use mathlib.Core.Logic.{⊎-elim}
+use mathlib.Core.Path.{_≡_, refl, sym, ap, ap₂, subst, _∙_}
 use mathlib.Core.List.{List, [], _∷_}
-use Prim.Native.Nat.{ℕ, zero, suc, _+_, _-_, _≤_, _<_}
+use Prim.Native.Nat.{ℕ, zero, suc, _+_, _≤_, _<_}
 use native.Mathlib.Nat.{not-suc-le-zero}
 use native.Mathlib.Numerals.{add-one}
 use native.Mathlib.Omega.{arith}
-use borrow.Author.Tests.{lt-ltb, le-ltb}
+use borrow.Author.Tests.{lt-ltb, le-ltb, eq-eqb, eqb-true}
+use lib.Dec.{T, eqb}
 use lib.ListN.{length, drop, getD, drop-of-length-le}
 use lib.Seq.{drop-cons}
-use Rattle.contenders.specs.Contest.{nobody, firstOf, firstPlace, firstTwin, alike, Twin}
+use Rattle.contenders.specs.Contest.{nobody, firstOf, firstPlace, firstTwin, alike, OccursAgain, LowestAgain}
 use Rattle.contenders.specs.declared.Contender.{Contender}
-use Rattle.line.proofs.Either.{either, below-or-not}
+use Rattle.line.proofs.Either.{either, below-or-not, both}
 
 pub length-firstOf : (n : ℕ) (cs : List Contender) → length (firstOf n cs) ≡ n
 unfolding firstOf
@@ -102,6 +103,19 @@ module _ {A : Type 0} (test : A → Bool) where
 
 -- ---- contenders alike
 
+alike-same : (c d : Contender) → alike c d ≡ true → d ≡ c
+unfolding alike
+alike-same c d e =
+    let parts = both (eqb (c .bit) (d .bit)) (eqb (c .address) (d .address)) e in
+    ap₂ (λ (b a : ℕ). record { bit = b; address = a }) (sym (eqb-true _ _ (parts .0))) (sym (eqb-true _ _ (parts .1)))
+
+same-alike : (c d : Contender) → d ≡ c → alike c d ≡ true
+unfolding alike
+same-alike c d e = rw e (simp (eq-eqb (c .bit) (c .bit) refl, eq-eqb (c .address) (c .address) refl))
+
+pub clash : {a : Bool} → a ≡ true → a ≡ false → ⊥
+clash t f = subst T (sym t ∙ f) tt
+
 pub twin-here : (c : Contender) (cs : List Contender) → firstPlace (alike c) cs < length cs → firstTwin (c ∷ cs) ≡ 0
 unfolding firstTwin
 twin-here c cs h = simp (lt-ltb _ _ h)
@@ -116,40 +130,49 @@ unfolding firstTwin
 twin-nil = refl
 
 -- one contender more before the others
-twin-shifted : {c : Contender} {cs : List Contender} {p : ℕ} → Twin cs p → Twin (c ∷ cs) (p + 1)
-twin-shifted {c} {cs} {p} t =
+again-shifted : {c : Contender} {cs : List Contender} {p : ℕ} → OccursAgain cs p → OccursAgain (c ∷ cs) (p + 1)
+again-shifted {c} {cs} {p} t =
     record {
-      within = omega (arith, t .within);
-      other = t .other + 1;
-      other-within = omega (arith, t .other-within);
-      apart = λ e. t .apart (omega arith);
-      same = rw (add-one p, add-one (t .other)) (t .same);
+      later = t .later + 1;
+      behind = omega (arith, t .behind);
+      later-within = omega (arith, t .later-within);
+      same = rw (add-one p, add-one (t .later)) (t .same);
     }
 
--- number 15 names a contender that has another alike
-pub twin-found : (cs : List Contender) → firstTwin cs < length cs → Twin cs (firstTwin cs)
-twin-found [] h = absurd (omega (arith, twin-nil))
-twin-found (c ∷ cs) h =
+again-found : (cs : List Contender) → firstTwin cs < length cs → OccursAgain cs (firstTwin cs)
+again-found [] h = absurd (omega (arith, twin-nil))
+again-found (c ∷ cs) h =
     ⊎-elim
     (λ y. rw (twin-here c cs y) (record {
-      within = omega arith;
-      other = firstPlace (alike c) cs + 1;
-      other-within = omega arith;
-      apart = λ e. omega arith;
-      same = rw (add-one (firstPlace (alike c) cs)) (first-holds (alike c) cs nobody y);
+      later = firstPlace (alike c) cs + 1;
+      behind = omega arith;
+      later-within = omega arith;
+      same = rw (add-one (firstPlace (alike c) cs)) (alike-same c _ (first-holds (alike c) cs nobody y));
     }))
-    (λ n. rw (twin-later c cs n) (twin-shifted (twin-found cs (omega (arith, twin-later c cs n)))))
+    (λ n. rw (twin-later c cs n) (again-shifted (again-found cs (omega (arith, twin-later c cs n)))))
     (below-or-not (firstPlace (alike c) cs) (length cs))
 
--- where none was found, no two are alike
-pub no-twin : (cs : List Contender) (i j : ℕ) → length cs ≤ firstTwin cs → i < j → j < length cs
+-- whoever stands before the place found has nobody alike behind it
+pub unlike-before : (cs : List Contender) (i j : ℕ) → i < firstTwin cs → i < j → j < length cs
     → alike (getD cs i nobody) (getD cs j nobody) ≡ false
-no-twin [] i j none lt h = absurd (omega arith)
-no-twin (c ∷ cs) i zero none lt h = absurd (omega arith)
-no-twin (c ∷ cs) zero (suc j) none lt h =
+unlike-before [] i j before lt h = absurd (omega arith)
+unlike-before (c ∷ cs) i zero before lt h = absurd (omega arith)
+unlike-before (c ∷ cs) zero (suc j) before lt h =
     ⊎-elim (λ y. absurd (omega (arith, twin-here c cs y))) (λ n. first-none (alike c) cs nobody j (omega arith))
     (below-or-not (firstPlace (alike c) cs) (length cs))
-no-twin (c ∷ cs) (suc i) (suc j) none lt h =
+unlike-before (c ∷ cs) (suc i) (suc j) before lt h =
     ⊎-elim (λ y. absurd (omega (arith, twin-here c cs y)))
-    (λ n. no-twin cs i j (omega (arith, twin-later c cs n)) (omega arith) (omega arith))
+    (λ n. unlike-before cs i j (omega (arith, twin-later c cs n)) (omega arith) (omega arith))
     (below-or-not (firstPlace (alike c) cs) (length cs))
+
+none-before : (cs : List Contender) (i : ℕ) → i < firstTwin cs → OccursAgain cs i → ⊥
+none-before cs i lt t =
+    clash (same-alike _ _ (t .same)) (unlike-before cs i (t .later) lt (t .behind) (t .later-within))
+
+-- what ticket 6 says of the place that number 15 names
+pub lowest-again : (cs : List Contender) → firstTwin cs < length cs → LowestAgain cs (firstTwin cs)
+lowest-again cs h = record { within = h; again = again-found cs h; lowest = none-before cs }
+
+-- and where number 15 is not given, nobody occurs again
+pub none-again : (cs : List Contender) → length cs ≤ firstTwin cs → (i : ℕ) → OccursAgain cs i → ⊥
+none-again cs none i t = none-before cs i (omega (arith, t .behind, t .later-within)) t

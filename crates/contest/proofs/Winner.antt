@@ -1,15 +1,14 @@
 -- The winner of a contest: who is the lowest of contenders that are in range, no two of them alike, is the only one
--- that
--- the slots leave, and comes before all others.
-use mathlib.Core.Bool.{Bool, true, false}
-use mathlib.Core.Logic.{_⊎_, inl, inr, ⊎-elim}
-use mathlib.Core.Path.{_≡_, refl, sym, ap, _∙_, subst}
+-- that the slots leave, and comes before all others.
+use mathlib.Core.Bool.{true}
+use mathlib.Core.Logic.{inl, inr, ⊎-elim}
+use mathlib.Core.Path.{_≡_, refl, sym, ap, _∙_}
 use mathlib.Core.List.{List, [], _∷_, map}
 use Prim.Native.Nat.{ℕ, zero, suc, _^_, _≤_, _<_}
 use native.Mathlib.Nat.{div-eq-of-lt, eq-or-lt-of-le}
 use native.Mathlib.Omega.{arith}
 use borrow.Author.Tests.{eq-eqb, ne-eqb, leb-true, not-false}
-use lib.Dec.{T, eqb, leb}
+use lib.Dec.{eqb, leb}
 use lib.ListN.{length, getD, length-map}
 use Rattle.line.specs.Numbers.{highestAddress}
 use Rattle.contenders.specs.Contest.{nobody, inRange, outOfRange, alike, numberOf}
@@ -17,7 +16,7 @@ use Rattle.contenders.specs.Contest.{lossOf, lossesOf, winnerOf, Before, Wins}
 use Rattle.contest.specs.Deciding.{differs, differences, Fair, Least}
 use Rattle.contenders.specs.declared.Contender.{Contender}
 use Rattle.line.proofs.Either.{below-or-not, both}
-use Rattle.contest.proofs.Places.{first-none, first-is, no-twin}
+use Rattle.contest.proofs.Places.{first-none, first-is, clash, unlike-before}
 use Rattle.contest.proofs.Slots.{Close, AllClose, Among, loss-differs, differs-self, differs-none}
 use Rattle.contest.proofs.Slots.{differs-slot}
 
@@ -47,9 +46,6 @@ unfolding numberOf
 lower-before c d r q lt =
     let bits : c .bit ≤ d .bit = omega arith in
     ⊎-elim (λ e. inr (e, omega arith)) (λ l. inl l) (eq-or-lt-of-le bits)
-
-clash : {a : Bool} → a ≡ true → a ≡ false → ⊥
-clash t f = subst T (sym t ∙ f) tt
 
 -- ---- lists of contenders, place by place
 
@@ -117,9 +113,9 @@ module _ (cs : List Contender) (p : ℕ) (fair : Fair cs) (least : Least cs p) w
       let there = ranged-at p (least .within) in
       ⊎-elim
       (λ lt. clash (same-number (getD cs i nobody) (getD cs p nobody) here there e)
-      (no-twin cs i p (fair .unlike) lt (least .within)))
+      (unlike-before cs i p (omega (arith, fair .unlike)) lt (least .within)))
       (λ le. clash (same-number (getD cs p nobody) (getD cs i nobody) there here (sym e))
-      (no-twin cs p i (fair .unlike) (omega arith) h))
+      (unlike-before cs p i (omega (arith, least .within, fair .unlike)) (omega arith) h))
       (below-or-not i p)
 
   pub wins : Wins cs p

@@ -1,5 +1,5 @@
 -- How the code decides a contest: what private functions promise each other. The public contract rests on none of
--- this; proofs/contenders/Winner.antt shows that it comes to what the slots of Contest.antt say.
+-- this; proofs/Winner.antt shows that it comes to what the slots of Contest.antt say.
 use mathlib.Core.Path.{_≡_}
 use mathlib.Core.List.{List, _++_, map}
 use Prim.Native.Nat.{ℕ, zero, suc, _-_, _≤_, _<_}

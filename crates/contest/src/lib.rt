@@ -3,7 +3,7 @@
 ghost use mathlib.Core.Path.{_≡_};
 ghost use Prim.Native.Nat.{_<_, _≤_};
 ghost use lib.ListN.{length};
-ghost use Rattle.contenders.specs.Contest.{Contested, WonRightly, contendersOf};
+ghost use Rattle.contenders.specs.Contest.{Contested, NamedRightly, contendersOf, verdictOf};
 ghost use Rattle.contenders.specs.Contest.{alike, firstAlikeFrom, firstOut, firstTwin, inRange, numberOf};
 ghost use Rattle.contest.specs.Deciding.{Fair, Least, Losses, differs};
 use contenders::Contender;
@@ -80,21 +80,21 @@ fn alike_from(all: Contenders, contender: Contender, from: usize) -> usize
     i
 }
 
-// The place of the first contender that has another alike behind it, the count where there is none.
+// The lowest place whose contender occurs again later, the count where there is none.
 fn first_twin(all: Contenders) -> usize
     requires { ⌜ all .count ≤ 50 ⌝ }
     ensures { λ r. ⌜ r ≡ firstTwin (contendersOf all) ⌝ }
 {
     let count = all.count;
-    let mut i: usize = 0;
-    while i < count {
-        let contender = all.list[i];
-        if alike_from(all, contender, i + 1) < count {
-            return i;
+    let mut place: usize = 0;
+    while place < count {
+        let contender = all.list[place];
+        if alike_from(all, contender, place + 1) < count {
+            return place;
         }
-        i += 1;
+        place += 1;
     }
-    i
+    place
 }
 
 // The place of a contender with the lowest number of all.
@@ -135,7 +135,7 @@ fn decide(all: Contenders, lost: &mut [u32]) -> Outcome
     requires { ⌜ (0 < all .count) × (all .count ≤ 50) × (all .count ≤ length (now lost)) ⌝ }
     requires { ⌜ Fair (contendersOf all) ⌝ }
     ensures whole { λ r. ⌜ Contested (contendersOf all) (now (lost .entry)) r (now (lost .exit)) ⌝ }
-    ensures least { λ r. ⌜ WonRightly (contendersOf all) r ⌝ }
+    ensures named { λ r. ⌜ NamedRightly (contendersOf all) (verdictOf r) ⌝ }
 {
     let best = least(all);
     let winner = all.list[best];
@@ -147,7 +147,7 @@ fn decide(all: Contenders, lost: &mut [u32]) -> Outcome
 // keep their contents, and so do all where the contest is refused.
 pub fn contest(all: Contenders, lost: &mut [u32]) -> Outcome
     ensures whole { λ r. ⌜ Contested (contendersOf all) (now (lost .entry)) r (now (lost .exit)) ⌝ }
-    ensures least { λ r. ⌜ WonRightly (contendersOf all) r ⌝ }
+    ensures named { λ r. ⌜ NamedRightly (contendersOf all) (verdictOf r) ⌝ }
 {
     let count = all.count;
     if lost.len() < count {

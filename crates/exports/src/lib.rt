@@ -1,6 +1,6 @@
 // What a host in C calls, and nothing else: each function hands on to a library below, whose contract it keeps. No
 // function has a `requires`, and nothing is assumed.
-ghost use Rattle.contenders.specs.Contest.{ContestedWord, WonByWord, contendersOf};
+ghost use Rattle.contenders.specs.Contest.{ContestedWord, NamedRightly, contendersOf, verdictIn};
 ghost use Rattle.lists.specs.Bytes.{CalledBytes};
 ghost use Rattle.rules.specs.State.{reset};
 ghost use Rattle.keeping.specs.Calls.{Ran, Reset};
@@ -16,7 +16,7 @@ const WORD_HALF: u32 = 65536;
 // The core's contest with its verdict as one number.
 fn contest_word(all: Contenders, lost: &mut [u32]) -> u32
     ensures whole { λ r. ⌜ ContestedWord (contendersOf all) (now (lost .entry)) r (now (lost .exit)) ⌝ }
-    ensures least { λ r. ⌜ WonByWord (contendersOf all) r ⌝ }
+    ensures named { λ r. ⌜ NamedRightly (contendersOf all) (verdictIn r) ⌝ }
 {
     let outcome = contest::contest(all, lost);
     let verdict = outcome.verdict();
@@ -29,7 +29,7 @@ fn contest_word(all: Contenders, lost: &mut [u32]) -> u32
 #[no_mangle]
 pub extern "C" fn iebus_contest(records: &[Contender], lost: &mut [u32]) -> u32
     ensures whole { λ r. ⌜ ContestedWord (now (records .entry)) (now (lost .entry)) r (now (lost .exit)) ⌝ }
-    ensures least { λ r. ⌜ WonByWord (now (records .entry)) r ⌝ }
+    ensures named { λ r. ⌜ NamedRightly (now (records .entry)) (verdictIn r) ⌝ }
 {
     contest_word(gathered(records), lost)
 }

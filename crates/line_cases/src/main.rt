@@ -79,6 +79,20 @@ fn lent_cases() {
     run_lent([ordinary(5), ordinary(6), ordinary(5)]);
 }
 
+// Number 15 names the lowest place whose contender occurs again later.
+fn alike_cases() {
+    io::write_all(STDOUT_FILENO, b"places 1 and 2 alike:");
+    run(Contenders::new(3).with(0, 0, 5).with(1, 1, 5).with(2, 1, 5));
+    io::write_all(STDOUT_FILENO, b"places 0 and 3, 1 and 2 alike:");
+    run(
+        Contenders::new(4)
+            .with(0, 1, 5)
+            .with(1, 1, 6)
+            .with(2, 1, 6)
+            .with(3, 1, 5),
+    );
+}
+
 fn main() {
     io::write_all(STDOUT_FILENO, b"0FFH beats 100H:");
     run(Contenders::new(2).with(0, 1, 0x100).with(1, 1, 0x0FF));
@@ -101,8 +115,7 @@ fn main() {
             .with(1, 0, 0xFFF)
             .with(2, 1, 0x1000),
     );
-    io::write_all(STDOUT_FILENO, b"places 1 and 2 alike:");
-    run(Contenders::new(3).with(0, 0, 5).with(1, 1, 5).with(2, 1, 5));
+    alike_cases();
     io::write_all(STDOUT_FILENO, b"a list of one number for two:");
     run_short(Contenders::new(2).with(0, 1, 0x100).with(1, 1, 0x0FF));
     lent_cases();

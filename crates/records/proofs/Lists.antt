@@ -7,13 +7,13 @@ use mathlib.Core.List.{List, [], _∷_}
 use Prim.Native.Nat.{ℕ, zero, suc, _+_, _≤_, _<_, min}
 use native.Mathlib.Numerals.{add-one}
 use native.Mathlib.Omega.{arith}
-use borrow.Author.Tests.{lt-ltb, ne-eqb, eqb-false}
-use lib.Dec.{eqb, ltb}
+use borrow.Author.Tests.{lt-ltb, ne-eqb}
+use lib.Dec.{ltb}
 use lib.ListN.{length, take, getD, set, replicate}
 use Rattle.line.specs.Choice.{pick}
 use Rattle.line.specs.Numbers.{mostContenders}
-use Rattle.contenders.specs.Contest.{nobody, firstOf, contendersOf, noContenders, firstTwin, verdictOf, contestOf}
-use Rattle.contenders.specs.Contest.{numbersAfter, Contested, WonRightly}
+use Rattle.contenders.specs.Contest.{nobody, firstOf, contendersOf, noContenders, verdictOf, contestOf, numbersAfter}
+use Rattle.contenders.specs.Contest.{Contested, ContestedWord, NamedRightly, verdictIn}
 use Rattle.records.specs.Gathered.{withRecord, gatheredOf}
 use Rattle.contenders.specs.declared.Contender.{Contender}
 use Rattle.contenders.specs.declared.Contenders.{Contenders}
@@ -21,7 +21,8 @@ use Rattle.contenders.specs.declared.Outcome.{Outcome}
 use Rattle.contenders.specs.declared.Verdict.{Verdict}
 use Rattle.contenders.specs.declared.Outcome.the-variants.{ShortList, WrongCount}
 use Rattle.line.proofs.Either.{below-or-not}
-use Rattle.contest.proofs.Places.{length-firstOf, twin-found}
+use Rattle.contest.proofs.Places.{length-firstOf}
+use Rattle.contest.proofs.Endings.{others-named}
 
 -- ---- the loop
 
@@ -85,43 +86,66 @@ unfolding contendersOf
 length-gathered cs = length-firstOf (length cs) (firstOf mostContenders cs)
 
 -- more than 50 are turned away, whoever they are
-module _ (cs : List Contender) (numbers : List ℕ) (n : ℕ) (is : length cs ≡ n) (many : 50 < n) where
-  turned-away : (twin : ℕ) → contestOf cs numbers twin ≡ pick (ltb (length numbers) n) ShortList WrongCount
-  unfolding contestOf
-  turned-away twin = rw is (simp (ne-eqb n 0 (λ e. omega arith), lt-ltb 50 n many))
+turned-away : (cs : List Contender) (numbers : List ℕ) (n : ℕ) → length cs ≡ n → 50 < n
+    → contestOf cs numbers ≡ pick (ltb (length numbers) n) ShortList WrongCount
+unfolding contestOf
+turned-away cs numbers n is many = rw is (simp (ne-eqb n 0 (λ e. omega arith), lt-ltb 50 n many))
 
-  not-won : (r : Outcome) (twin : ℕ) → verdictOf r ≡ verdictOf (contestOf cs numbers twin)
-      → eqb (verdictOf r .number) 0 ≡ false
-  not-won r twin e =
-      ap (λ (v : Verdict). eqb (v .number) 0) (e ∙ ap verdictOf (turned-away twin)) ∙ refusal (ltb (length numbers) n)
-    where
-      refusal : (b : Bool) → eqb (verdictOf (pick b ShortList WrongCount) .number) 0 ≡ false
-      refusal true = refl
-      refusal false = refl
+-- 12 and 13 name no place
+abbrev TurnedAway : ℕ → Type 0
+TurnedAway number = (0 < number) × (number < 15)
+
+away-number : (b : Bool) → TurnedAway (verdictOf (pick b ShortList WrongCount) .number)
+away-number true = (omega arith, omega arith)
+away-number false = (omega arith, omega arith)
+
+module _ (cs : List Contender) (numbers : List ℕ) where
+  -- a contest of what was gathered is the contest of the list
+  pub outcome-listed : contestOf (contendersOf (gatheredOf cs)) numbers ≡ contestOf cs numbers
+  outcome-listed =
+      ⊎-elim
+      (λ many. turned-away _ numbers _ (length-gathered cs) many ∙ sym (turned-away cs numbers _ refl many))
+      (λ few. ap (λ (ds : List Contender). contestOf ds numbers) (few-gathered cs few))
+      (below-or-not 50 (length cs))
+
+  module _ {v : Verdict} (e : v ≡ verdictOf (contestOf cs numbers)) where
+    many-away : 50 < length cs → TurnedAway (v .number)
+    many-away many =
+        subst (λ (w : Verdict). TurnedAway (w .number)) (sym (e ∙ ap verdictOf (turned-away cs numbers _ refl many)))
+        (away-number (ltb (length numbers) (length cs)))
+
+    pub numbers-listed : numbersAfter (contendersOf (gatheredOf cs)) numbers v ≡ numbersAfter cs numbers v
+    unfolding numbersAfter
+    numbers-listed =
+        ⊎-elim (λ many. simp (ne-eqb (v .number) 0 (λ z. omega (arith, many-away many))))
+        (λ few. ap (λ (ds : List Contender). numbersAfter ds numbers v) (few-gathered cs few))
+        (below-or-not 50 (length cs))
+
+    pub named-listed : NamedRightly (contendersOf (gatheredOf cs)) v → NamedRightly cs v
+    named-listed named =
+        ⊎-elim (λ many. others-named (v .number) (v .place) (many-away many .0) (many-away many .1))
+        (λ few. subst (λ (ds : List Contender). NamedRightly ds v) (few-gathered cs few) named)
+        (below-or-not 50 (length cs))
 
 module _ (cs : List Contender) {numbers : List ℕ} {r : Outcome} {after : List ℕ}
     (c : Contested (contendersOf (gatheredOf cs)) numbers r after) where
-  pub none-won : 50 < length cs → eqb (verdictOf r .number) 0 ≡ false
-  none-won many = not-won _ numbers _ (length-gathered cs) many r (c .twin) (c .verdict)
+  outcome-told : r ≡ contestOf cs numbers
+  outcome-told = c .outcome ∙ outcome-listed cs numbers
 
-  -- the contest of what was gathered is the contest of the list
   pub contest-listed : Contested cs numbers r after
-  unfolding numbersAfter
   contest-listed =
-      ⊎-elim
-      (λ many. record {
-        twin = firstTwin cs;
-        named = twin-found cs;
-        verdict = c .verdict
-            ∙ ap verdictOf (turned-away _ numbers _ (length-gathered cs) many (c .twin)
-            ∙ sym (turned-away cs numbers _ refl many (firstTwin cs)));
-        written = c .written ∙ simp (none-won many);
-      })
-      (λ few. subst (λ (ds : List Contender). Contested ds numbers r after) (few-gathered cs few) c)
-      (below-or-not 50 (length cs))
+      record { outcome = outcome-told; written = c .written ∙ numbers-listed cs numbers (ap verdictOf outcome-told) }
 
-  pub winner-listed : WonRightly (contendersOf (gatheredOf cs)) r → WonRightly cs r
-  winner-listed won =
-      ⊎-elim (λ many zero. absurd (eqb-false _ _ (none-won many) zero))
-      (λ few. subst (λ (ds : List Contender). WonRightly ds r) (few-gathered cs few) won)
-      (below-or-not 50 (length cs))
+  pub outcome-named : NamedRightly (contendersOf (gatheredOf cs)) (verdictOf r) → NamedRightly cs (verdictOf r)
+  outcome-named = named-listed cs numbers (ap verdictOf outcome-told)
+
+module _ (cs : List Contender) {numbers : List ℕ} {word : ℕ} {after : List ℕ}
+    (c : ContestedWord (contendersOf (gatheredOf cs)) numbers word after) where
+  verdict-told : verdictIn word ≡ verdictOf (contestOf cs numbers)
+  verdict-told = c .verdict ∙ ap verdictOf (outcome-listed cs numbers)
+
+  pub word-listed : ContestedWord cs numbers word after
+  word-listed = record { verdict = verdict-told; written = c .written ∙ numbers-listed cs numbers verdict-told }
+
+  pub word-named : NamedRightly (contendersOf (gatheredOf cs)) (verdictIn word) → NamedRightly cs (verdictIn word)
+  word-named = named-listed cs numbers verdict-told

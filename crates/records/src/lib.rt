@@ -6,7 +6,7 @@ ghost use mathlib.Core.Path.{_≡_};
 ghost use Prim.Native.Nat.{_<_, min};
 ghost use lib.ListN.{length};
 ghost use Rattle.line.specs.Numbers.{mostContenders};
-ghost use Rattle.contenders.specs.Contest.{Contested, WonRightly};
+ghost use Rattle.contenders.specs.Contest.{Contested, NamedRightly, verdictOf};
 ghost use Rattle.records.specs.Gathered.{withRecord, gatheredOf};
 use contenders::Contender;
 use contenders::Contenders;
@@ -50,7 +50,7 @@ pub fn gathered(records: &[Contender]) -> Contenders
 // their contents, and so do all where the contest is refused.
 pub fn contest(records: &[Contender], lost: &mut [u32]) -> Outcome
     ensures whole { λ r. ⌜ Contested (now (records .entry)) (now (lost .entry)) r (now (lost .exit)) ⌝ }
-    ensures least { λ r. ⌜ WonRightly (now (records .entry)) r ⌝ }
+    ensures named { λ r. ⌜ NamedRightly (now (records .entry)) (verdictOf r) ⌝ }
 {
     contest::contest(gathered(records), lost)
 }

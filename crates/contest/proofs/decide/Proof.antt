@@ -3,7 +3,7 @@ use native.Mathlib.Omega.{arith}
 use borrow.Author.Needs.{needs}
 use Rattle.contenders.specs.Contest.{numberOf}
 use Rattle.contest.proofs.Loops.{contenders-length, contender-at}
-use Rattle.contest.proofs.Endings.{ends-won}
+use Rattle.contest.proofs.Endings.{ends-won, winner-named}
 use Rattle.contest.proofs.Winner.{wins}
 use Rattle.contest.proofs.decide.Statement.{statement}
 use Rattle.contest.proofs.decide.Tie as tie
@@ -27,5 +27,5 @@ decide-spec =
     let number = c .before .before .before .before .number .ensures ∙ ap numberOf (sym there) in (
       ends-won _ _ (omega arith) (λ e. omega arith) (omega arith) (start .pre .1) least
           (rw number at (c .before .before .put-losses .ensures)),
-      λ e. wins _ _ (start .pre .1) least,
+      winner-named (start .pre .1) (wins _ _ (start .pre .1) least),
     )))

@@ -1,8 +1,7 @@
-use mathlib.Core.Path.{ap}
+use mathlib.Core.Path.{refl}
 use native.Mathlib.Omega.{arith}
 use borrow.Author.Needs.{needs}
-use Rattle.contenders.specs.Contest.{verdictWord}
-use Rattle.records.proofs.Words.{place-fits, contest-told, winner-told}
+use Rattle.records.proofs.Words.{place-fits, contest-told, word-told}
 use Rattle.exports.proofs.contest_word.Statement.{statement}
 use Rattle.exports.proofs.contest_word.Tie as tie
 
@@ -20,5 +19,5 @@ contest-word-spec =
     record { fits = omega (arith, place-fits (c .verdict .ensures) (known .0) (known .1)) })
     (λ c. search needs)
     (λ c. let known = c .before .before .before .contest .ensures in
-    let told = ap verdictWord (c .verdict .ensures) in
-    (contest-told (known .0) (known .1) told, winner-told (known .0) (known .1) told)))
+    let e = c .verdict .ensures in
+    (contest-told e (known .0) (known .1) refl, word-told e (known .0) (known .1) refl)))

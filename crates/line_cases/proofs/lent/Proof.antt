@@ -46,7 +46,7 @@ use denote.Triple.Spec.{Meets, tripleOf}
 use denote.Triple.Statement.{Contract, Triple}
 use denote.Triple.Table.{entered, cited}
 use denote.Triple.Walked.{Stays, stay-dropped, gave-slice, walkOf, goes-dropped, goes-gave-slice, ends-at}
-use Rattle.contenders.specs.Contest.{Contested, WonRightly}
+use Rattle.contenders.specs.Contest.{Contested, NamedRightly, verdictOf}
 use Rattle.contenders.specs.declared.Contender.{Contender}
 use Rattle.contenders.specs.declared.Outcome.{Outcome}
 use Rattle.contenders.proofs.Contender as R
@@ -181,7 +181,8 @@ module _ {M : Type 1} (𝓤 : URA M) (H : Heap 𝓤) (A : Atoms 𝓤) (W : Given
           use1 W (later (some (λ (r : Outcome).
           (Tokens l₃ α γ ⊛ ‵ (O.the-row .own r (w ∷ []))) ⊛ some (λ (zs : Unit {0} × (List ℕ × Unit {0})).
           ‵ (lasts contest.ended (α ∷ [], (κ, tt)) (s l₃ α γ, (x, tt)) zs)
-          ⊛ raw (sep 𝓤 (fact 𝓤 (Contested cs (x .now) r (zs .1 .0))) (fact 𝓤 (WonRightly cs r))))))) (id⊢ 𝓤 _) $
+          ⊛ raw (sep 𝓤 (fact 𝓤 (Contested cs (x .now) r (zs .1 .0))) (fact 𝓤 (NamedRightly cs (verdictOf r))))))))
+          (id⊢ 𝓤 _) $
           await ! tt $ pick ! (λ r. split ! $ move ! (1 ∷ []) $ pick ! (λ zs.
           split ! $ fsplit ! $ drop ! $ fsplit ! $ fsplit ! $ move ! (1 ∷ []) $ feqL ! (λ same.
           -- [the last list; true; the promise; the tokens and the result; the loan; _7; ..]
