@@ -4,6 +4,7 @@
 #include <stdio.h>
 #include <string.h>
 
+#include "alike.h"
 #include "contest.h"
 #include "iebus.h"
 
@@ -135,36 +136,15 @@ static void refused_places(void)
     check("number 13 comes before number 14", refused(&t, 13, 0) && wrote_nothing(&t));
 }
 
-/* Ticket 6, of number 15: "It shall name the lowest place whose contender occurs again later." Each list tells a
-   misreading of it apart; the letters in the names are contenders. */
-static const struct alike_list {
-    const char *name;
-    struct iebus_contender records[6];
-    size_t len;
-    unsigned number, place;
-} alike_lists[] = {
-    {"number 15 names the earlier one of its pair", {{1, 9}, {0, 5}, {1, 5}, {0, 5}}, 4, 15, 1},
-    {"number 15 names a of a b b a, though b b closes first", {{1, 9}, {0, 5}, {0, 5}, {1, 9}}, 4, 15, 0},
-    {"number 15 names a of a b c b a c", {{1, 9}, {0, 5}, {1, 5}, {0, 5}, {1, 9}, {1, 5}}, 6, 15, 0},
-    {"number 15 names the first a of a a b b", {{1, 9}, {1, 9}, {0, 5}, {0, 5}}, 4, 15, 0},
-    {"number 15 names a of a b a, the only pair", {{1, 9}, {0, 5}, {1, 9}}, 3, 15, 0},
-    {"number 15 names the first b of a b b b", {{1, 9}, {0, 5}, {0, 5}, {0, 5}}, 4, 15, 1},
-    {"number 15 names the last but one of a b c d d", {{1, 9}, {0, 5}, {1, 5}, {0, 9}, {0, 9}}, 5, 15, 3},
-    {"number 15 passes over two alike by address alone", {{1, 5}, {0, 5}, {1, 6}, {1, 6}}, 4, 15, 2},
-    {"number 15 passes over two alike by bit alone", {{1, 5}, {1, 6}, {0, 7}, {0, 7}}, 4, 15, 2},
-    {"number 14 comes before number 15 between two alike", {{1, 5}, {2, 5}, {1, 5}}, 3, 14, 1},
-    {"number 14 comes before number 15 behind two alike", {{1, 5}, {1, 5}, {1, 0x1000}}, 3, 14, 2},
-    {"number 14 comes before number 15 where those alike are out of range", {{1, 5}, {2, 6}, {2, 6}}, 3, 14, 1},
-};
-
 static void alike_places(void)
 {
-    for (size_t i = 0; i < sizeof alike_lists / sizeof *alike_lists; i++) {
+    for (size_t i = 0; i < ALIKE_LISTS; i++) {
         const struct alike_list *a = &alike_lists[i];
         struct trial t = {.len = a->len, .lost_len = a->len};
-        memcpy(t.records, a->records, sizeof a->records);
+        for (size_t k = 0; k < a->len; k++)
+            t.records[k] = (struct iebus_contender){(uint8_t)a->list[k].broadcast, (uint16_t)a->list[k].address};
         run(&t);
-        check(a->name, refused(&t, a->number, a->place) && wrote_nothing(&t));
+        check(a->name, refused(&t, a->number, (unsigned)a->place) && wrote_nothing(&t));
     }
     struct trial t = {.records = {{1, 5}, {0, 5}}, .len = 2, .lost_len = 2};
     run(&t);

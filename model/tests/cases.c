@@ -1,6 +1,7 @@
 /* The cases that document 01 lists under "Proved and run cases", and refusals 11 to 15, the last as ticket 6 has it. */
 #include <string.h>
 
+#include "../alike.h"
 #include "../contest.h"
 #include "../tools/iebus_run.h"
 #include "../traffic/traffic.h"
@@ -56,31 +57,9 @@ static void contest_refusals(void)
     report("14 for an address", refused_untouched(wide + 3, 1, 1, REFUSED_CONTENDER, 0), "not so");
 }
 
-/* Short lists that tell the misreadings of number 15 apart; the letters in the names are contenders. */
-static const struct alike_list {
-    const char *name;
-    struct contender list[6];
-    size_t len;
-    enum refusal number;
-    size_t place;
-} alike_lists[] = {
-    {"15 names the earlier one of its pair", {{1, 9}, {0, 5}, {1, 5}, {0, 5}}, 4, REFUSED_ALIKE, 1},
-    {"15 names a of a b b a, though b b closes first", {{1, 9}, {0, 5}, {0, 5}, {1, 9}}, 4, REFUSED_ALIKE, 0},
-    {"15 names a of a b c b a c", {{1, 9}, {0, 5}, {1, 5}, {0, 5}, {1, 9}, {1, 5}}, 6, REFUSED_ALIKE, 0},
-    {"15 names the first a of a a b b", {{1, 9}, {1, 9}, {0, 5}, {0, 5}}, 4, REFUSED_ALIKE, 0},
-    {"15 names a of a b a, the only pair", {{1, 9}, {0, 5}, {1, 9}}, 3, REFUSED_ALIKE, 0},
-    {"15 names the first b of a b b b", {{1, 9}, {0, 5}, {0, 5}, {0, 5}}, 4, REFUSED_ALIKE, 1},
-    {"15 names the last but one of a b c d d", {{1, 9}, {0, 5}, {1, 5}, {0, 9}, {0, 9}}, 5, REFUSED_ALIKE, 3},
-    {"15 passes over two alike by address alone", {{1, 5}, {0, 5}, {1, 6}, {1, 6}}, 4, REFUSED_ALIKE, 2},
-    {"15 passes over two alike by bit alone", {{1, 5}, {1, 6}, {0, 7}, {0, 7}}, 4, REFUSED_ALIKE, 2},
-    {"14 comes before 15 between the two alike", {{1, 5}, {2, 5}, {1, 5}}, 3, REFUSED_CONTENDER, 1},
-    {"14 comes before 15 where those alike are out of range", {{1, 5}, {1, 0x1000}, {1, 0x1000}}, 3,
-     REFUSED_CONTENDER, 1},
-};
-
 static void alike_cases(void)
 {
-    for (size_t i = 0; i < sizeof alike_lists / sizeof *alike_lists; i++) {
+    for (size_t i = 0; i < ALIKE_LISTS; i++) {
         const struct alike_list *a = &alike_lists[i];
         report(a->name, refused_untouched(a->list, a->len, a->len, a->number, a->place), "not so");
     }
