@@ -113,7 +113,7 @@ same-alike : (c d : Contender) → d ≡ c → alike c d ≡ true
 unfolding alike
 same-alike c d e = rw e (simp (eq-eqb (c .bit) (c .bit) refl, eq-eqb (c .address) (c .address) refl))
 
-pub clash : {a : Bool} → a ≡ true → a ≡ false → ⊥
+clash : {a : Bool} → a ≡ true → a ≡ false → ⊥
 clash t f = subst T (sym t ∙ f) tt
 
 pub twin-here : (c : Contender) (cs : List Contender) → firstPlace (alike c) cs < length cs → firstTwin (c ∷ cs) ≡ 0
@@ -153,7 +153,7 @@ again-found (c ∷ cs) h =
     (below-or-not (firstPlace (alike c) cs) (length cs))
 
 -- whoever stands before the place found has nobody alike behind it
-pub unlike-before : (cs : List Contender) (i j : ℕ) → i < firstTwin cs → i < j → j < length cs
+unlike-before : (cs : List Contender) (i j : ℕ) → i < firstTwin cs → i < j → j < length cs
     → alike (getD cs i nobody) (getD cs j nobody) ≡ false
 unlike-before [] i j before lt h = absurd (omega arith)
 unlike-before (c ∷ cs) i zero before lt h = absurd (omega arith)

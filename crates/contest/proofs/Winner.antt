@@ -2,7 +2,7 @@
 -- that the slots leave, and comes before all others.
 use mathlib.Core.Bool.{true}
 use mathlib.Core.Logic.{inl, inr, ⊎-elim}
-use mathlib.Core.Path.{_≡_, refl, sym, ap, _∙_}
+use mathlib.Core.Path.{_≡_, refl, sym, ap, ap₂, _∙_}
 use mathlib.Core.List.{List, [], _∷_, map}
 use Prim.Native.Nat.{ℕ, zero, suc, _^_, _≤_, _<_}
 use native.Mathlib.Nat.{div-eq-of-lt, eq-or-lt-of-le}
@@ -11,12 +11,12 @@ use borrow.Author.Tests.{eq-eqb, ne-eqb, leb-true, not-false}
 use lib.Dec.{eqb, leb}
 use lib.ListN.{length, getD, length-map}
 use Rattle.line.specs.Numbers.{highestAddress}
-use Rattle.contenders.specs.Contest.{nobody, inRange, outOfRange, alike, numberOf}
+use Rattle.contenders.specs.Contest.{nobody, inRange, outOfRange, numberOf}
 use Rattle.contenders.specs.Contest.{lossOf, lossesOf, winnerOf, Before, Wins}
 use Rattle.contest.specs.Deciding.{differs, differences, Fair, Least}
 use Rattle.contenders.specs.declared.Contender.{Contender}
 use Rattle.line.proofs.Either.{below-or-not, both}
-use Rattle.contest.proofs.Places.{first-none, first-is, clash, unlike-before}
+use Rattle.contest.proofs.Places.{first-none, first-is, none-again}
 use Rattle.contest.proofs.Slots.{Close, AllClose, Among, loss-differs, differs-self, differs-none}
 use Rattle.contest.proofs.Slots.{differs-slot}
 
@@ -36,10 +36,10 @@ number-lt : {c : Contender} → Ranged c → numberOf c < 2 ^ 13
 unfolding numberOf
 number-lt {c} r = omega (arith, r .bit-le, r .address-le)
 
--- contenders in range with one number are alike
-same-number : (c d : Contender) → Ranged c → Ranged d → numberOf c ≡ numberOf d → alike c d ≡ true
-unfolding alike numberOf
-same-number c d r q e = simp (eq-eqb (c .bit) (d .bit) (omega arith), eq-eqb (c .address) (d .address) (omega arith))
+-- contenders in range with one number are the same
+same-number : (c d : Contender) → Ranged c → Ranged d → numberOf c ≡ numberOf d → c ≡ d
+unfolding numberOf
+same-number c d r q e = ap₂ (λ (b a : ℕ). record { bit = b; address = a }) (omega arith) (omega arith)
 
 lower-before : (c d : Contender) → Ranged c → Ranged d → numberOf c < numberOf d → Before c d
 unfolding numberOf
@@ -109,13 +109,12 @@ module _ (cs : List Contender) (p : ℕ) (fair : Fair cs) (least : Least cs p) w
   -- no other contender has the winner's number
   unequal : (i : ℕ) → i < length cs → (i ≡ p → ⊥) → numberOf (getD cs i nobody) ≡ w → ⊥
   unequal i h ne e =
-      let here = ranged-at i h in
-      let there = ranged-at p (least .within) in
+      let same = same-number _ _ (ranged-at i h) (ranged-at p (least .within)) e in
       ⊎-elim
-      (λ lt. clash (same-number (getD cs i nobody) (getD cs p nobody) here there e)
-      (unlike-before cs i p (omega (arith, fair .unlike)) lt (least .within)))
-      (λ le. clash (same-number (getD cs p nobody) (getD cs i nobody) there here (sym e))
-      (unlike-before cs p i (omega (arith, least .within, fair .unlike)) (omega arith) h))
+      (λ lt. none-again cs (fair .unlike) i
+      (record { later = p; behind = lt; later-within = least .within; same = sym same }))
+      (λ le. none-again cs (fair .unlike) p
+      (record { later = i; behind = omega arith; later-within = h; same = same }))
       (below-or-not i p)
 
   pub wins : Wins cs p
