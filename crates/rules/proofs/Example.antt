@@ -2,15 +2,18 @@
 -- to 525H. Its host offers slave data; the holder reads a byte of it with 3H, breaks off, and takes two more frames of
 -- BH to end the lock. In the first list strangers read status and lock, are turned down with every other control while
 -- data is offered, broadcast, break off in every field and spoil a parity, in between there are levels, idle slots and
--- stray bits; in the second there is other noise. The claim is then applied at four places.
+-- stray bits; in the second there is other noise. The claim is then applied at four places. Besides, what `Status.antt`
+-- says of the status byte, on a desk that reads it and then writes.
 use mathlib.Core.Bool.{Bool, true, false, false≢true, not, _&&_}
+use mathlib.Core.Logic.{inl}
 use mathlib.Core.Path.{_≡_, refl, sym, ap, _∙_}
 use mathlib.Core.List.{List, [], _∷_, _++_, map}
-use Prim.Native.Nat.{ℕ, zero, suc, _+_, _-_, _≤_, _<_}
+use Prim.Native.Nat.{ℕ, zero, suc, _+_, _*_, _-_, _/_, _%_, _≤_, _<_}
 use native.Mathlib.Omega.{arith}
 use borrow.Author.Tests.{not-true}
 use lib.Count.{ones, onesIn}
 use lib.ListN.{length, take, getD}
+use Rattle.line.specs.Choice.{bitOf}
 use Rattle.line.specs.Numbers.{driveReleased}
 use Rattle.line.specs.Parity as parity
 use Rattle.line.specs.Slot.{Class, slot, host, slotOf, classOf}
@@ -18,6 +21,9 @@ use Rattle.line.specs.declared.slot.Slot.the-variants.{Level}
 use Rattle.place.specs.Frame as frame
 use Rattle.place.specs.Slaves as slaves
 use Rattle.place.specs.Drive as drive
+use Rattle.place.specs.Drive.{sentOf}
+use Rattle.place.specs.declared.Field.the-variants.{Length, Data}
+use Rattle.place.specs.declared.Place.the-variants.{In}
 use Rattle.place.specs.Masters as masters
 use Rattle.place.specs.Step as level
 use Rattle.place.specs.Cases.{field}
@@ -31,10 +37,14 @@ use Rattle.rules.specs.Endings as endings
 use Rattle.rules.specs.Slots as slots
 use Rattle.rules.specs.Registers as registers
 use Rattle.rules.specs.Step as step
+use Rattle.rules.specs.Step.{nextDrive}
 use Rattle.rules.specs.Stories.{answered, asksToWrite, brokenOff, exchange, header, lockTaken, read, readOut}
-use Rattle.rules.specs.Stories.{toAll, write}
+use Rattle.rules.specs.Stories.{setUp, toAll, write}
 use Rattle.rules.specs.Machine.{observed, unit, waiting}
 use Rattle.rules.proofs.Protects.{holds}
+use Rattle.rules.proofs.Undisturbed.{touches, undisturbed}
+use Rattle.rules.proofs.Status.{WriteComes}
+use Rattle.rules.proofs.Told.{SendsStatus, byte-driven, desk-served}
 
 -- ---- the holder's words, and the host's
 
@@ -104,6 +114,17 @@ upTo A = length A - 1
 abbrev bitAt : List ℕ → ℕ
 bitAt before = length before + 45
 
+-- a unit that listens, and a desk that reads its status, up to the slot in which the desk ACKs the length
+abbrev asking : State
+asking = run unit reset (setUp ++ write 0x0 0x10 ∷ take 44 (exchange 0x525 0x123 0x0 1 (0x90 ∷ [])))
+
+-- the byte, a host that looks at FLG, and FH of that desk up to the P slot of the control
+abbrev writing : List ℕ
+writing = answered 8 0x90 0 ++ 3 ∷ read 0x1 ∷ take 33 (header 0x525 0x123 0xF 0)
+
+abbrev written : State
+written = run unit (unit .step asking 0) writing
+
 -- ---- the conditions, and what comes out
 
 -- from a state and over some words, the comparison goes on: locked before each word, and no request at any time
@@ -137,9 +158,16 @@ record Computed : Type 0 where
   ending : Behind 0x525 first second (upTo first) (upTo second)
   ended : observed (run unit begin (take (upTo first) first))
       ≡ record { tbf = []; rbf = 0x52 ∷ 0x5B ∷ 0x01 ∷ 0x98 ∷ []; locked = false; holder = 0; marc = 3; slrc = 6 }
+  -- the desk that reads the status and then writes
+  asks : SendsStatus asking (In Length 9)
+  begins : SendsStatus (unit .step asking 0) (In Data 0)
+  tells : unit .step asking 0 .core .frame .byte ≡ 0x90
+  free : undisturbed (unit .step asking 0) writing ≡ true
+  writes : WriteComes written false
+  individual : written .core .frame .broadcast ≡ false
 
 computed : Computed
-unfolding goesOn first second framed fromMaster levels spells marks marked keeps kept spaced count
+unfolding goesOn undisturbed touches first second framed fromMaster levels spells marks marked keeps kept spaced count
     answers driven latest ones onesIn parity.parityOf parity.parityHolds parity.levelOf
     parity.levelsOf slotOf classOf frame.limitOf frame.lengthOf frame.shiftOf frame.begunOf frame.toField
     frame.doneOf frame.nextOf frame.shiftedOf frame.withLength slaves.addressedOf slaves.writesOf slaves.strangerOf
@@ -182,6 +210,12 @@ computed =
       low = refl;
       ending = refl;
       ended = refl;
+      asks = record { place = refl; slave = refl; sends = refl; asked = inl refl };
+      begins = record { place = refl; slave = refl; sends = refl; asked = inl refl };
+      tells = refl;
+      free = refl;
+      writes = record { at-p = refl; slave = refl; writes = refl; sound = refl; let-in = inl refl };
+      individual = refl;
     }
 
 pub given : Given unit 0x525 begin first second
@@ -295,3 +329,17 @@ pub ended-alike : observed (run unit begin (take (upTo first) first))
 ended-alike =
     alike .states (upTo first) (upTo second) (computed .ending) (compared-first (upTo first) (omega arith))
     (compared-second (upTo second) (omega arith))
+
+-- ---- the status byte, applied
+
+-- 90H is told, of which the first bit is driven, and the write is given ACK
+pub write-served : (unit .step asking 0 .core .frame .byte ≡ 0x90) × (nextDrive (unit .step asking 0) ≡ 1)
+    × (unit .answer written 0 ≡ 0x8000_0000)
+unfolding sentOf parity.levelOf
+write-served = (
+  computed .tells,
+  byte-driven (unit .step asking 0) 0 (computed .begins)
+      ∙ ap (λ (byte : ℕ). bitOf (sentOf 8 byte 0)) (computed .tells),
+  desk-served asking (computed .asks) writing false (computed .free) (computed .writes) (computed .individual)
+      ∙ ap (λ (byte : ℕ). 0x8000_0000 + byte / 2 % 2 * 256) (computed .tells),
+)

@@ -9,8 +9,9 @@ use native.Mathlib.Omega.{arith}
 use borrow.Author.Tests.{ltb-true, ltb-false, eqb-false}
 use lib.Dec.{eqb, ltb}
 use lib.Pow.{pow-mono}
-use Rattle.line.specs.Choice.{pick, bitOf, _▹_}
+use Rattle.line.specs.Choice.{pick, _▹_}
 use Rattle.line.specs.Parity.{parityHolds}
+use Rattle.line.proofs.Levels.{bit-le}
 use Rattle.place.specs.Frame.{doneOf, nextOf, shiftOf, shiftedOf, toField, withLength}
 use Rattle.place.specs.Slaves.{acceptedOf, byValue, controlOf, openTo, strangerOf, writesOf}
 use Rattle.place.specs.Masters.{clashOf, ownBit}
@@ -123,10 +124,6 @@ unfolding spells
 spells-all h n x bs l m s =
     let e : 12 - n ≡ 0 = omega arith in
     rw e at s
-
-bit-le : (b : Bool) → bitOf b ≤ 1
-bit-le true = omega arith
-bit-le false = omega arith
 
 shifted-lt : (n x : ℕ) (b : Bool) → n < 12 → x < 2 ^ n → shiftOf x b < 2 ^ (n % 16 + 1)
 unfolding shiftOf

@@ -33,13 +33,14 @@ use Rattle.rules.specs.Stories.{lostAnew, heldBack, thirdFrame, cleared,
 use Rattle.rules.specs.Stories.{masterWants, tooLong, triesOn, outlasted, outlastedBroken, noneTaken, ranEmpty7}
 use Rattle.rules.specs.Stories.{unheard6, takenAnew, comesAgain, twoOffered, twoSent, offerOutlasts, statusAsked}
 use Rattle.rules.specs.Stories.{unheard, from525, readAll, turnedDown, filled, controlsIn, listed, busy}
-use Rattle.rules.specs.Stories.{oneOffered}
+use Rattle.rules.specs.Stories.{oneOffered, askedAfter, asksThenWrites, tellsThenGives}
 
--- "master 525H, FH, length 2: RBF begins 52H 5FH 02H"; "status after reset 80H"; the listing's example; the stories
+-- "master 525H, FH, length 2: RBF begins 52H 5FH 02H"; "After reset the status byte is now 82H"; the listing's example;
+-- the stories
 unfoldable pub unitCases : List Case
 unitCases =
     (reception leaves asReset ▹ rcr 0xF6 ▹ rdr2 5 ▹ rbf (0x52 ∷ 0x5F ∷ 0x02 ∷ 0xA5 ∷ 0x5A ∷ []))
-    ∷ (statusByte resetRegisters true ∷ [] gives 0x80 ∷ [])
+    ∷ (statusByte resetRegisters true ∷ [] gives 0x82 ∷ [])
     ∷ (answers unit reset (0x2000_0000 ∷ 0x1600_008F ∷ 0x1100_0008 ∷ 0x0000_0002 ∷ 0x3000_0000 ∷ [])
     gives 0xA000_0150 ∷ 0x9000_0100 ∷ 0xF000_0008 ∷ 0x8000_0100 ∷ 0xF000_0001 ∷ [])
     -- a master's request, from its start code to a normal end
@@ -168,15 +169,31 @@ drivenCases =
     (exchange 0x525 0x123 0x6 1 (0x94 ∷ []) ++ exchange 0x111 0x123 0x6 1 (0x90 ∷ [])
     ++ exchange 0x111 0x123 0x5 1 (0x00 ∷ []) ++ header 0x111 0x123 0x4 1 ++ 3 ∷ [])
     gives taken (tells 0x94 ++ tells 0x90 ++ tells 0x00 ++ asSlave (heard 4 1)))
-    ∷ (answering twoOffered (exchange 0x525 0x123 0x0 1 (0x91 ∷ [])) gives taken (tells 0x91))
-    ∷ (twoOffered ++ exchange 0x525 0x123 0x0 1 (0x91 ∷ [])
+    ∷ (answering twoOffered (exchange 0x525 0x123 0x0 1 (0x93 ∷ [])) gives taken (tells 0x93))
+    ∷ (twoOffered ++ exchange 0x525 0x123 0x0 1 (0x93 ∷ [])
     leaves asReset ▹ flg 0x20 ▹ tbf (0x02 ∷ 0x11 ∷ 0x22 ∷ []))
+    -- "bit 1 is 0 when SLRE is set and RBF is empty, and otherwise 1": the write that follows is taken, or gets NAK
+    ∷ (answering (setUp ++ write 0x0 0x10 ∷ []) (asksThenWrites 0x0 0x90 0 ++ asksThenWrites 0x6 0x90 0)
+    gives taken (tellsThenGives 0x90 0 ++ tellsThenGives 0x90 0))
+    ∷ (answering setUp (asksThenWrites 0x0 0x92 1 ++ asksThenWrites 0x6 0x92 1)
+    gives taken (tellsThenGives 0x92 1 ++ tellsThenGives 0x92 1))
+    ∷ (answering reception (asksThenWrites 0x0 0x92 1) gives taken (tellsThenGives 0x92 1))
+    ∷ (answering (reception ++ write 0x0 0x10 ∷ []) (asksThenWrites 0x0 0x92 1) gives taken (tellsThenGives 0x92 1))
+    -- the same for the holder of the lock, with slave data offered in the end
+    ∷ (answering (lockTaken ++ write 0x0 0x10 ∷ []) (asksThenWrites 0x0 0x96 1) gives taken (tellsThenGives 0x96 1))
+    ∷ (answering (lockTaken ++ readOut ++ oneOffered) (asksThenWrites 0x0 0x95 0) gives taken (tellsThenGives 0x95 0))
+    -- 6H that breaks off leaves SLRE
+    ∷ (answering (setUp ++ write 0x0 0x10 ∷ from525 ++ askedAfter 0x6 [] ++ answered 8 0x90 1 ++ 3 ∷ [])
+    (header 0x525 0x123 0xF 0 ++ 3 ∷ []) gives taken (asSlave (heard 4 0)))
     -- "A status or lock byte is fixed when its data field first begins": 0BH comes too late for both attempts
-    ∷ (answering (setUp ++ filled 2 ++ from525 ++ statusAsked ++ write 0x1 0x0B ∷ unheard 1) (answered 8 0x90 0)
-    gives taken (0 ∷ 0 ∷ 1 ∷ 0 ∷ 0 ∷ 0 ∷ 0 ∷ 0 ∷ 1 ∷ 1 ∷ []))
+    ∷ (answering (setUp ++ filled 2 ++ from525 ++ statusAsked ++ write 0x1 0x0B ∷ unheard 1) (answered 8 0x92 0)
+    gives taken (0 ∷ 0 ∷ 1 ∷ 0 ∷ 0 ∷ 1 ∷ 0 ∷ 1 ∷ 1 ∷ 1 ∷ []))
+    -- RBF is read out and SLRE set before it begins; 0FH comes too late
+    ∷ (answering (reception ++ from525 ++ askedAfter 0x6 (read 0xE ∷ readOut) ++ write 0x1 0x0F ∷ answered 8 0x90 1)
+    (answered 8 0x90 0) gives taken (0 ∷ 0 ∷ 1 ∷ 0 ∷ 0 ∷ 0 ∷ 0 ∷ 0 ∷ 1 ∷ 1 ∷ []))
     -- "UAR1 (.. mode)": in mode 1 a 17th attempt is made
-    ∷ (answering (write 0x2 0x33 ∷ write 0x3 0x12 ∷ from525 ++ statusAsked ++ unheard 16) (answered 8 0x90 0)
-    gives taken (0 ∷ 0 ∷ 1 ∷ 0 ∷ 0 ∷ 0 ∷ 0 ∷ 0 ∷ 1 ∷ 1 ∷ []))
+    ∷ (answering (write 0x2 0x33 ∷ write 0x3 0x12 ∷ from525 ++ statusAsked ++ unheard 16) (answered 8 0x92 0)
+    gives taken (0 ∷ 0 ∷ 1 ∷ 0 ∷ 0 ∷ 1 ∷ 0 ∷ 1 ∷ 1 ∷ 1 ∷ []))
     -- the same of a master: after 16 attempts its request is aborted, in mode 1 the 17th and 18th are made
     ∷ (triesOn 0x32 leaves asReset ▹ rcr 0x3F)
     ∷ (triesOn 0x33 leaves asReset ▹ rcr 0x2F)

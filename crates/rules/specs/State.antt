@@ -81,7 +81,11 @@ rbfAfter (Byte b) rbf = pushOf rbfBytes rbf b
 
 -- ---- what is worked out from the registers
 
--- what a frame sees of its unit; AH, BH, EH, FH are accepted "only with SLRE set and RBF empty"
+-- "AH, BH, EH, FH: only with SLRE set and RBF empty."
+abbrev pub readyOf : Registers → Bool → Bool
+readyOf r clear = r .slre && clear
+
+-- what a frame sees of its unit
 abbrev pub viewOf : Registers → Bool → View
 viewOf r clear =
     record {
@@ -90,7 +94,7 @@ viewOf r clear =
       slave = r .slave;
       control = r .control;
       strq = r .strq;
-      ready = r .slre && clear;
+      ready = readyOf r clear;
       locked = r .locked;
       holder = r .holder;
     }
@@ -99,11 +103,11 @@ viewOf r clear =
 unfoldable pub takesPart : Registers → Bool → Bool
 takesPart r clear = r .marq && (writesOf (r .control) || clear)
 
--- "The status byte has bit 0 STRQ, bit 1 RBF not empty (table 2-5), bit 2 locked, bit 4 sending enabled, bits 7-6 =
--- 10"
+-- "The status byte has bit 0 STRQ, bit 1 .., bit 2 locked, bit 4 sending enabled, bits 7-6 = 10"; ticket 2: "bit 1 is 0
+-- when SLRE is set and RBF is empty, and otherwise 1"
 unfoldable pub statusByte : Registers → Bool → ℕ
 statusByte r clear =
-    128 + bitOf (r .enabled) * 16 + bitOf (r .locked) * 4 + bitOf (not clear) * 2 + bitOf (r .strq)
+    128 + bitOf (r .enabled) * 16 + bitOf (r .locked) * 4 + bitOf (not (readyOf r clear)) * 2 + bitOf (r .strq)
 
 -- "4H, 5H: length 1 and the holder's low 8 bits, or its high 4 bits under four zeros. Unlocked, .. 5H gives 00H."
 unfoldable pub ownByte : Registers → ℕ → Bool → ℕ

@@ -333,12 +333,23 @@ offerOutlasts =
     twoOffered ++ write 0x0 0x10 ∷ 2 ∷ 3 ∷ 2 ∷ 1 ∷ 3 ∷ from525 ++ 3 ∷ from525 ++ answered 12 0x123 0 ++ 3 ∷ header
     0x525 0x123 0xF 0 ++ 3 ∷ brokenOff 0x525 0x123 0xF
 
--- 0H behind the master address, up to the status byte; and so many NAKs for it
+-- 0H or 6H behind the master address, up to the status byte, with some words before the slot that ends the length; and
+-- so many NAKs for the byte
+abbrev pub askedAfter : ℕ → List ℕ → List ℕ
+askedAfter control words = answered 12 0x123 0 ++ answered 4 control 0 ++ field 8 1 ++ words ++ 0 ∷ []
+
 abbrev pub statusAsked : List ℕ
-statusAsked = answered 12 0x123 0 ++ answered 4 0x0 0 ++ answered 8 1 0
+statusAsked = askedAfter 0x0 []
 
 abbrev pub unheard : ℕ → List ℕ
-unheard n = times n (answered 8 0x90 1)
+unheard n = times n (answered 8 0x92 1)
+
+-- a desk reads the status with 0H or 6H, and writes with FH in the next frame; what the unit drives then
+abbrev pub asksThenWrites : ℕ → ℕ → ℕ → List ℕ
+asksThenWrites control status a = exchange 0x525 0x123 control 1 (status ∷ []) ++ header 0x525 0x123 0xF a ++ 3 ∷ []
+
+abbrev pub tellsThenGives : ℕ → ℕ → List ℕ
+tellsThenGives status a = tells status ++ asSlave (heard 4 a)
 
 -- ---- registers
 

@@ -7,13 +7,13 @@ use rules::state::Acted;
 use rules::state::Core;
 use rules::state::Registers;
 
-// "The status byte has bit 0 STRQ, bit 1 RBF not empty (table 2-5), bit 2 locked, bit 4 sending enabled, bits 7-6
-// = 10".
+// "The status byte has bit 0 STRQ, bit 1 .., bit 2 locked, bit 4 sending enabled, bits 7-6 = 10"; ticket 2: "bit 1 is 0
+// when SLRE is set and RBF is empty, and otherwise 1".
 fn status_byte(regs: Registers, clear: bool) -> u8
     ensures { λ r. ⌜ r ≡ statusByte regs clear ⌝ }
 {
-    let filled = !clear;
-    128 + (regs.enabled as u8) * 16 + (regs.locked as u8) * 4 + (filled as u8) * 2 + regs.strq as u8
+    let closed = !(regs.slre & clear);
+    128 + (regs.enabled as u8) * 16 + (regs.locked as u8) * 4 + (closed as u8) * 2 + regs.strq as u8
 }
 
 // The byte that a slave sends of itself: the holder's low 8 bits with 4H, its high 4 with 5H, or the status.

@@ -1,6 +1,6 @@
 use Prim.Native.Nat.{_≤_}
-use Rattle.rules.specs.State.{statusByte}
-use mathlib.Core.Bool.{Bool, true, false}
+use Rattle.rules.specs.State.{readyOf, statusByte}
+use mathlib.Core.Bool.{Bool, true, false, not}
 use mir.Val.{boolByte}
 use native.Mathlib.Omega.{arith}
 use borrow.Author.Needs.{needs}
@@ -17,29 +17,31 @@ status-byte-spec =
     tie.close
     (tie.spec
     (λ c. search needs)
-    (λ c. omega (arith, rt-bit-le (c .before .args .regs .enabled)))
-    (λ c. omega (arith, rt-bit-le (c .before .args .regs .enabled)))
+    (λ c. let a = c .before .before .args in omega (arith, rt-bit-le (a .regs .enabled)))
+    (λ c. let a = c .before .before .args in omega (arith, rt-bit-le (a .regs .enabled)))
     (λ c. search needs)
-    (λ c. omega (arith, rt-bit-le (c .before .before .args .regs .locked)))
-    (λ c. omega (
+    (λ c. let a = c .before .before .before .args in omega (arith, rt-bit-le (a .regs .locked)))
+    (λ c.
+    let a = c .before .before .before .args in
+    omega (arith, rt-bit-le (a .regs .enabled), rt-bit-le (a .regs .locked)))
+    (λ c. search needs)
+    (λ c. let a = c .before .before .before .args in omega (arith, rt-bit-le (not (readyOf (a .regs) (a .clear)))))
+    (λ c.
+    let a = c .before .before .before .args in
+    omega (
       arith,
-      rt-bit-le (c .before .before .args .regs .enabled),
-      rt-bit-le (c .before .before .args .regs .locked),
+      rt-bit-le (a .regs .enabled),
+      rt-bit-le (a .regs .locked),
+      rt-bit-le (not (readyOf (a .regs) (a .clear))),
     ))
     (λ c. search needs)
-    (λ c. omega (arith, rt-bit-le (mathlib.Core.Bool.not (c .before .before .args .clear))))
-    (λ c. omega (
+    (λ c.
+    let a = c .before .before .before .before .args in
+    omega (
       arith,
-      rt-bit-le (c .before .before .args .regs .enabled),
-      rt-bit-le (c .before .before .args .regs .locked),
-      rt-bit-le (mathlib.Core.Bool.not (c .before .before .args .clear)),
-    ))
-    (λ c. search needs)
-    (λ c. omega (
-      arith,
-      rt-bit-le (c .before .before .before .args .regs .enabled),
-      rt-bit-le (c .before .before .before .args .regs .locked),
-      rt-bit-le (mathlib.Core.Bool.not (c .before .before .before .args .clear)),
-      rt-bit-le (c .before .before .before .args .regs .strq),
+      rt-bit-le (a .regs .enabled),
+      rt-bit-le (a .regs .locked),
+      rt-bit-le (not (readyOf (a .regs) (a .clear))),
+      rt-bit-le (a .regs .strq),
     ))
     (λ c. search needs))
