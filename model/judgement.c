@@ -32,7 +32,7 @@ static bool control_accepted(const struct unit *u)
     /* "AH, BH, EH, FH: only with SLRE set and RBF empty"; "A broadcast is taken only with AH, BH, EH, FH, with SLRE
        set and RBF empty"; "A locked unit passes over broadcasts of others than the holder." */
     case CONTROL_COMMAND_LOCK: case CONTROL_DATA_LOCK: case CONTROL_COMMAND: case CONTROL_DATA:
-        return !stranger && u->slre && u->rbf.count == 0;
+        return !stranger && reception_open(u);
     /* "1H, 2H, 8H, 9H, CH, DH: NAK." */
     default:
         return false;

@@ -25,11 +25,19 @@ uint16_t length_in_bytes(uint8_t length)
     return length ? length : LENGTH_OF_ZERO;
 }
 
-/* "The status byte has bit 0 STRQ, bit 1 RBF not empty (table 2-5), bit 2 locked, bit 4 sending enabled,
-   bits 7-6 = 10 (note 4)." */
+/* Whether a write control finds the unit ready for it, its lock aside. Status bit 1 rests on the same, because of
+   ticket 2: "A desk saw bit 1 at 0, wrote, and got NAK." */
+bool reception_open(const struct unit *u)
+{
+    return u->slre && u->rbf.count == 0;
+}
+
+/* "The status byte has bit 0 STRQ, bit 1 .., bit 2 locked, bit 4 sending enabled, bits 7-6 = 10 (note 4)." Ticket 2:
+   "Document 000's text on the SLRE flag overrides its table 2-5: bit 1 is 0 when SLRE is set and RBF is empty, and
+   otherwise 1." */
 uint8_t status_byte(const struct unit *u)
 {
-    return (uint8_t)(STATUS_FIXED | (u->strq ? STATUS_STRQ : 0) | (u->rbf.count ? STATUS_RBF_NOT_EMPTY : 0)
+    return (uint8_t)(STATUS_FIXED | (u->strq ? STATUS_STRQ : 0) | (reception_open(u) ? 0 : STATUS_RECEPTION_CLOSED)
                      | (u->locked ? STATUS_LOCKED : 0)
                      | (u->uar1 & UAR1_SENDING_ENABLED ? STATUS_SENDING_ENABLED : 0));
 }

@@ -80,6 +80,7 @@ enum refusal register_read(struct unit *u, unsigned reg, uint8_t *value);
 unsigned parity(unsigned field);
 uint16_t attempt_limit(unsigned mode);
 uint16_t length_in_bytes(uint8_t length);
+bool reception_open(const struct unit *u);
 uint8_t status_byte(const struct unit *u);
 bool request_writes(const struct unit *u);
 bool request_holds_back(const struct unit *u);

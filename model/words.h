@@ -53,9 +53,9 @@ enum cmr_value {
 
 enum str_bit { STR_TFL = 0x80, STR_TEP = 0x40, STR_RFL = 0x20, STR_REP = 0x10 };
 enum flg_bit { FLG_MARQ = 0x40, FLG_STRQ = 0x20, FLG_SLRE = 0x10 };
-/* "bit 0 STRQ, bit 1 RBF not empty (table 2-5), bit 2 locked, bit 4 sending enabled, bits 7-6 = 10 (note 4)" */
+/* "bit 0 STRQ, bit 1 .., bit 2 locked, bit 4 sending enabled, bits 7-6 = 10 (note 4)"; bit 1 is ticket 2's. */
 enum status_bit {
-    STATUS_STRQ = 0x01, STATUS_RBF_NOT_EMPTY = 0x02, STATUS_LOCKED = 0x04,
+    STATUS_STRQ = 0x01, STATUS_RECEPTION_CLOSED = 0x02, STATUS_LOCKED = 0x04,
     STATUS_SENDING_ENABLED = 0x10, STATUS_FIXED = 0x80
 };
 

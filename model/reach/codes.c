@@ -1,4 +1,4 @@
-/* Return codes, their order, and the status byte's values. */
+/* Return codes and their order. */
 #include <stdio.h>
 
 #include "group.h"
@@ -63,29 +63,5 @@ static void label_steps(size_t item, char text[LABEL_SIZE])
              steps[item].to);
 }
 
-/* Four bits of the status byte vary: STRQ, RBF not empty, locked, sending enabled. */
-static void observe_status(uint64_t *counts, const struct moment *m)
-{
-    const struct frame *b = &m->before->frame, *a = &m->after->frame;
-    if (b->field != FIELD_LENGTH || a->field != FIELD_DATA || !a->sending || a->master
-        || (a->control != CONTROL_STATUS && a->control != CONTROL_STATUS_UNLOCK))
-        return;
-    unsigned status = a->out >> 1;
-    counts[(status & 7) | (status & STATUS_SENDING_ENABLED ? 8 : 0)]++;
-}
-
-/* STRQ needs sending enabled (number 10), and UAR stays while STRQ is set (number 6). */
-static enum expectation expect_status(size_t item)
-{
-    return (item & 1) && !(item & 8) ? NEVER : MUST;
-}
-
-static void label_status(size_t item, char text[LABEL_SIZE])
-{
-    snprintf(text, LABEL_SIZE, "status with STRQ %zu, RBF not empty %zu, locked %zu, sending enabled %zu", item & 1,
-             item >> 1 & 1, item >> 2 & 1, item >> 3 & 1);
-}
-
 const struct group codes = {"return codes", 2 * CODES, observe_codes, expect_codes, label_codes};
 const struct group code_steps = {"code after code", STEPS, observe_steps, expect_all, label_steps};
-const struct group status_values = {"values of the status byte", 16, observe_status, expect_status, label_status};

@@ -5,9 +5,7 @@
 
 #define CONTROLS 16
 
-enum relation { UNLOCKED, HOLDER, STRANGER, RELATIONS };
 enum outcome { ACCEPTED, REFUSED_BY_RULE, BAD_PARITY, OUTCOMES };
-static const char *const relation_names[] = {"unlocked", "locked, by the holder", "locked, by a stranger"};
 static const char *const outcome_names[] = {"accepted", "refused", "bad parity"};
 
 static bool writes(size_t control)
@@ -18,11 +16,6 @@ static bool writes(size_t control)
 static bool reads_tbf(size_t control)
 {
     return control == CONTROL_READ_LOCK || control == CONTROL_READ;
-}
-
-static enum relation relation_of(const struct unit *u)
-{
-    return !u->locked ? UNLOCKED : u->holder == u->frame.master_address ? HOLDER : STRANGER;
 }
 
 static void observe_controls(uint64_t *counts, const struct moment *m)

@@ -7,7 +7,8 @@
 enum breach {
     REFUSAL_CHANGED_STATE, READ_CHANGED_STATE, LEVEL_CHANGED_WAITING_UNIT, TBF_OVER_33, RBF_OVER_35, BOTH_REQUESTS,
     STRQ_WITHOUT_ENABLED, WAITING_DRIVES_0, DRIVES_START_IN_FRAME, MASTER_WITHOUT_REQUEST, ATTEMPTS_OVER_LIMIT,
-    LOSSES_OVER_RETRIES, LOCK_TO_STRANGER, DRIVE_NOT_IN_ANSWER, BREACHES
+    LOSSES_OVER_RETRIES, LOCK_TO_STRANGER, DRIVE_NOT_IN_ANSWER, STATUS_NOT_AS_FIXED, OPEN_THEN_NAK, CLOSED_THEN_ACK,
+    BREACHES
 };
 static const char *const names[BREACHES] = {
     "a refusal changes state", "a read of another register than RBF changes state",
@@ -15,7 +16,9 @@ static const char *const names[BREACHES] = {
     "RBF holds over 35 bytes", "MARQ and STRQ together", "STRQ with sending disabled", "a unit that waits drives 0",
     "start driven inside a frame", "a master in a frame without MARQ", "more attempts than the frame has",
     "a request that goes on after its last retry was lost", "a lock that passes from one master to another",
-    "an answer whose drive bits are not those of the state"
+    "an answer whose drive bits are not those of the state", "a status byte that is not the status as it first began",
+    "bit 1 read as 0, then a write refused for another reason than parity or the lock",
+    "bit 1 read as 1, then a write accepted"
 };
 
 static bool same(const struct unit *a, const struct unit *b)
@@ -40,10 +43,23 @@ static void observe_words(uint64_t *counts, const struct moment *m)
     counts[LOCK_TO_STRANGER] += b->locked && a->locked && a->holder != b->holder;
 }
 
+/* "A status or lock byte is fixed when its data field first begins." Ticket 2: a desk that saw bit 1 at 0 is not turned
+   down for what bit 1 stands for. */
+static void observe_status(uint64_t *counts, const struct moment *m)
+{
+    const struct frame *f = &m->after->frame;
+    counts[STATUS_NOT_AS_FIXED] += f->field == FIELD_DATA && sends_status(f) && f->out >> 1 != m->memory->status_fixed;
+    bool accepted = f->field == FIELD_CONTROL && f->ack;
+    bool closed = m->memory->desk.saw_closed;
+    counts[OPEN_THEN_NAK] += desk_writes(m) && !closed && !accepted && relation_of(m->before) != STRANGER;
+    counts[CLOSED_THEN_ACK] += desk_writes(m) && closed && accepted;
+}
+
 static void observe(uint64_t *counts, const struct moment *m)
 {
     const struct unit *a = m->after;
     observe_words(counts, m);
+    observe_status(counts, m);
     counts[TBF_OVER_33] += a->tbf.count > TBF_CAPACITY;
     counts[RBF_OVER_35] += a->rbf.count > HEADER_BYTES + ATTEMPTS_MODE_1;
     counts[BOTH_REQUESTS] += a->marq && a->strq;

@@ -1,4 +1,4 @@
-/* What the observer remembers between words: of the frame that goes on, and of the lock. */
+/* What the observer remembers between words: of the frame that goes on, of the lock, and of the latest status read. */
 #include <string.h>
 
 #include "memory.h"
@@ -35,15 +35,30 @@ static void note_level(const struct moment *m)
     if (memory->wanted && at_acknowledge(m, FIELD_DATA) && a->frame.field == FIELD_DATA && b->tbf.count == 0
         && a->frame.acked == f->acked)
         memory->repeated_empty = true;
-    if (at_acknowledge(m, FIELD_LENGTH) && a->frame.field == FIELD_DATA && a->frame.sending && !a->frame.begun
-        && !a->frame.master)
-        memory->status_fixed = status_byte(a);
     if (unit_drive(b) == DRIVE_START)
         memory->level_at_start = true;
 }
 
+static void note_status(const struct moment *m)
+{
+    const struct frame *a = &m->after->frame;
+    struct memory *memory = m->memory;
+    if (readiness_of(m->after) != readiness_of(m->before))
+        memory->desk.stands = false;
+    if (at_parity(m, FIELD_CONTROL))
+        memory->ready_at_control = (uint8_t)readiness_of(m->after);
+    if (status_begins(m)) {
+        memory->status_fixed = status_byte(m->after);
+        memory->ready_at_byte = (uint8_t)readiness_of(m->after);
+        memory->desk = (struct desk){a->master_address, a->out >> 1 & STATUS_RECEPTION_CLOSED, false, true};
+    }
+    if (at_acknowledge(m, FIELD_DATA) && sends_status(&m->before->frame) && way_of(m) == WAY_NORMAL)
+        memory->desk.acked = true;
+}
+
 void memory_note(const struct moment *m)
 {
+    note_status(m);
     if (is_slot(m, SLOT_START))
         m->memory->life++;
     if (is_write_of(m, WRITE_CTR, CTR_RESET))
@@ -68,6 +83,7 @@ void memory_forget(const struct moment *m)
         m->memory->continued = kept.continued;
         m->memory->stranger_since = kept.stranger_since;
         m->memory->life = kept.life;
+        m->memory->desk = kept.desk;
     }
     if (is_slot(m, SLOT_IDLE))
         m->memory->level_at_start = false;

@@ -68,3 +68,35 @@ bool slave_in_exchange(const struct moment *m)
     return !b->master && (b->field > FIELD_CONTROL
                           || (b->field == FIELD_CONTROL && b->count == CONTROL_BITS + 1 && b->ack));
 }
+
+const char *const relation_names[RELATIONS] = {"unlocked", "locked, by the holder", "locked, by a stranger"};
+
+enum relation relation_of(const struct unit *u)
+{
+    return !u->locked ? UNLOCKED : u->holder == u->frame.master_address ? HOLDER : STRANGER;
+}
+
+unsigned readiness_of(const struct unit *u)
+{
+    return (u->slre ? READY_SLRE : 0) | (u->rbf.count == 0 ? READY_RBF_EMPTY : 0);
+}
+
+bool sends_status(const struct frame *f)
+{
+    return !f->master && f->sending && (f->control == CONTROL_STATUS || f->control == CONTROL_STATUS_UNLOCK);
+}
+
+bool status_begins(const struct moment *m)
+{
+    const struct frame *f = &m->after->frame;
+    return at_acknowledge(m, FIELD_LENGTH) && f->field == FIELD_DATA && sends_status(f);
+}
+
+bool desk_writes(const struct moment *m)
+{
+    const struct frame *f = &m->before->frame;
+    const struct desk *d = &m->memory->desk;
+    return at_parity(m, FIELD_CONTROL) && !f->master && !f->broadcast && !parity(f->bits << 1 | m->word)
+        && control_defined(f->bits) && (f->bits & CONTROL_WRITES)
+        && d->acked && d->stands && d->address == f->master_address;
+}

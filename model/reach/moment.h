@@ -4,6 +4,14 @@
 
 #include "../unit.h"
 
+/* A master that was sent the status byte. */
+struct desk {
+    uint16_t address;
+    bool saw_closed;             /* bit 1 of the byte */
+    bool acked;                  /* it has ACKed the byte */
+    bool stands;                 /* SLRE is as it was when the byte was fixed, and so is whether RBF is empty */
+};
+
 struct memory {
     unsigned lost_slot;          /* slot of the frame in which the unit lost its contest, 0 for none */
     bool mode_turned;            /* UAR1 was written with the other mode inside the frame */
@@ -12,12 +20,15 @@ struct memory {
     bool repeated_empty;         /* and a byte was repeated with TBF empty */
     bool slre_cleared, slre_set; /* by the host, after the control of a write was accepted */
     bool own_turned;             /* the own address was written inside the frame */
-    uint8_t status_fixed;        /* the status byte as it goes out, 0 for none */
+    uint8_t ready_at_control;    /* readiness with the P of the latest control */
+    uint8_t ready_at_byte;       /* and as the status byte was fixed */
+    uint8_t status_fixed;        /* the status as its byte was fixed, 0 for none */
     bool status_turned;          /* the status has changed since */
     bool level_at_start;         /* a level met a unit that drove start */
     unsigned continued;          /* frames with which the holder continued the lock */
     bool stranger_since;         /* a stranger's frame came since the lock was taken */
     unsigned life;               /* frames since the unit was reset */
+    struct desk desk;            /* the latest one to be sent the status byte */
 };
 
 struct moment {
@@ -77,5 +88,22 @@ enum way way_of(const struct moment *m);
 
 /* As slave, the control has been accepted and the frame has not ended before this word. */
 bool slave_in_exchange(const struct moment *m);
+
+/* How the lock stands to the frame's master. */
+enum relation { UNLOCKED, HOLDER, STRANGER, RELATIONS };
+extern const char *const relation_names[RELATIONS];
+enum relation relation_of(const struct unit *u);
+
+/* What status bit 1 rests on, each by itself: SLRE, and whether RBF is empty. */
+enum readiness { READY_RBF_EMPTY = 1, READY_SLRE = 2, READINESSES = 4 };
+unsigned readiness_of(const struct unit *u);
+
+/* The frame is one in which the unit answers 0H or 6H; its status byte is fixed with this word. */
+bool sends_status(const struct frame *f);
+bool status_begins(const struct moment *m);
+
+/* The word is the P, with good parity, of a write control in an individual frame to the unit, from the latest desk that
+   has read the status, with SLRE and RBF's emptiness unchanged since the byte was fixed. */
+bool desk_writes(const struct moment *m);
 
 #endif

@@ -18,7 +18,7 @@
 #define LIST_WORDS 400000
 
 static const struct group *const groups[] = {
-    &refusal_reasons, &refusal_places, &host_places, &codes, &code_steps, &status_values, &slave_controls,
+    &refusal_reasons, &refusal_places, &host_places, &codes, &code_steps, &status_bytes, &slave_controls,
     &refused_controls, &slave_ends, &master_ends, &cut_slots, &losses, &locks, &attempts, &particulars,
     &invariants
 };

@@ -1,4 +1,5 @@
-/* The cases that document 01 lists under "Proved and run cases", and refusals 11 to 15, the last as ticket 6 has it. */
+/* The cases that document 01 lists under "Proved and run cases", the status after reset as ticket 2 has it, and
+   refusals 11 to 15, the last as ticket 6 has it. */
 #include <string.h>
 
 #include "../alike.h"
@@ -143,7 +144,7 @@ void known_cases(void)
     model_reset(&u);
     report("parity of 525H is 1, of 000H is 0", parity(0x525) == 1 && parity(0x000) == 0, "another parity");
     report("length 00H is 256, FFH is 255", length_in_bytes(0x00) == 256 && length_in_bytes(0xFF) == 255, "not so");
-    report("status after reset 80H", status_byte(&u) == 0x80, "another status");
+    report("status after reset 82H", status_byte(&u) == 0x82, "another status");
     report("a frame of 16 attempts has 205 slots", slots_of_frame(0) == 205
            && SLOTS_BEFORE_DATA + SLOTS_PER_ATTEMPT * ATTEMPTS_MODE_0 == 205, "another count");
     report("a frame of 32 attempts has 365 slots", slots_of_frame(1) == 365

@@ -1,4 +1,6 @@
-/* Frames worked out by hand from document 01 and the readings. */
+/* Frames worked out by hand from document 01, ticket 2 and the readings. */
+#include <stdio.h>
+
 #include "bench.h"
 
 #define OWN 0x525u
@@ -63,6 +65,151 @@ static void locking(void)
     slot(&u, SLOT_LEVEL_0);
     report("6H of the holder shows the lock and unlocks with its byte's ACK",
            called && status == 0x94 && before && !u.locked, "not so");
+}
+
+/* Ticket 2: "bit 1 is 0 when SLRE is set and RBF is empty, and otherwise 1." Sending stays disabled and nothing locks,
+   so that the rest of the byte is 80H. */
+struct closing {
+    const char *name;
+    bool slre, rbf_empty;
+    unsigned status;
+};
+static const struct closing closings[] = {
+    {"SLRE clear, RBF empty", false, true, 0x82}, {"SLRE clear, a byte in RBF", false, false, 0x82},
+    {"SLRE set, RBF empty", true, true, 0x80}, {"SLRE set, a byte in RBF", true, false, 0x82}
+};
+#define CLOSINGS (sizeof closings / sizeof *closings)
+static const unsigned status_controls[] = {CONTROL_STATUS, CONTROL_STATUS_UNLOCK};
+#define NAME_SIZE 120
+
+/* The byte in RBF is the last one of a reception, which has cleared SLRE. */
+static void bring_about(struct unit *u, const struct closing *c)
+{
+    prepare(u, OWN, 0, !c->rbf_empty);
+    if (!c->rbf_empty) {
+        call_unit(u, STRANGER, OWN, CONTROL_DATA);
+        field(u, 1, BYTE_BITS);
+        slot(u, SLOT_LEVEL_0);
+        field(u, 0x5A, BYTE_BITS);
+        slot(u, SLOT_LEVEL_0);
+        for (unsigned i = 0; i < HEADER_BYTES; i++)
+            read_register(u, READ_RBF);
+    }
+    if (c->slre)
+        write_register(u, WRITE_CTR, CTR_SET_SLRE);
+    slot(u, SLOT_IDLE);
+}
+
+/* Where a host word falls in a frame that reads the status. */
+enum when { NOT_AT_ALL, AFTER_CONTROL_P, BEFORE_LENGTH_A, AS_BYTE_BEGINS, BEFORE_NAK, AFTER_NAK, WHENS };
+
+static void host_word_if(struct unit *u, bool due, uint32_t word)
+{
+    if (due)
+        model_step(u, word);
+}
+
+/* DESK reads the status with two NAKs before its ACK, so that the byte comes three times; gives it, or NO_STATUS where
+   these differ or it does not come at all. */
+#define NO_STATUS 0x100u
+
+static unsigned read_status(struct unit *u, unsigned control, enum when when, uint32_t word)
+{
+    slot(u, SLOT_START);
+    slot(u, SLOT_LEVEL_1);
+    field(u, DESK, ADDRESS_BITS);
+    field(u, OWN, ADDRESS_BITS);
+    slot(u, SLOT_LEVEL_0);
+    bool held = field(u, control, CONTROL_BITS) == DRIVE_0;
+    host_word_if(u, when == AFTER_CONTROL_P, word);
+    slot(u, SLOT_LEVEL_0);
+    held = held && driven_field(u, BYTE_BITS) == 1;
+    host_word_if(u, when == BEFORE_LENGTH_A, word);
+    slot(u, SLOT_LEVEL_0);
+    host_word_if(u, when == AS_BYTE_BEGINS, word);
+    unsigned status = driven_field(u, BYTE_BITS);
+    host_word_if(u, when == BEFORE_NAK, word);
+    slot(u, SLOT_LEVEL_1);
+    host_word_if(u, when == AFTER_NAK, word);
+    held = held && driven_field(u, BYTE_BITS) == status;
+    slot(u, SLOT_LEVEL_1);
+    held = held && driven_field(u, BYTE_BITS) == status;
+    slot(u, SLOT_LEVEL_0);
+    slot(u, SLOT_IDLE);
+    return held ? status : NO_STATUS;
+}
+
+static void status_values(void)
+{
+    struct unit u;
+    char name[NAME_SIZE];
+    for (size_t i = 0; i < 2 * CLOSINGS; i++) {
+        const struct closing *c = &closings[i / 2];
+        bring_about(&u, c);
+        snprintf(name, sizeof name, "%s: %XH reads %XH", c->name, status_controls[i % 2], c->status);
+        report(name, read_status(&u, status_controls[i % 2], NOT_AT_ALL, 0) == c->status, "another status");
+    }
+    model_reset(&u);
+    call_unit(&u, DESK, 0x000, CONTROL_STATUS);
+    driven_field(&u, BYTE_BITS);
+    slot(&u, SLOT_LEVEL_0);
+    report("0H after reset reads 82H", driven_field(&u, BYTE_BITS) == 0x82, "another status");
+}
+
+/* A host word that opens or closes reception shows in the byte up to the word of the length's A, with which the data
+   field begins, and from then on in the next frame only: "A status or lock byte is fixed when its data field first
+   begins." */
+static void status_turned(void)
+{
+    static const struct {
+        const char *name;
+        struct closing before;
+        uint32_t word;
+        unsigned after;
+    } turns[] = {
+        {"0FH clears SLRE", {NULL, true, true, 0x80}, 0x1100000F, 0x82},
+        {"10H sets SLRE", {NULL, false, true, 0x82}, 0x10000010, 0x80},
+        {"the last byte of RBF is read", {NULL, true, false, 0x82}, 0x2E000000, 0x80}
+    };
+    static const char *const places[WHENS] = {
+        [AFTER_CONTROL_P] = "between P and A of the control", [BEFORE_LENGTH_A] = "between P and A of the length",
+        [AS_BYTE_BEGINS] = "after the length's A", [BEFORE_NAK] = "between P and NAK of the byte",
+        [AFTER_NAK] = "after the byte's NAK"
+    };
+    struct unit u;
+    char name[NAME_SIZE];
+    for (size_t i = 0; i < sizeof turns / sizeof *turns * 2; i++)
+        for (enum when when = AFTER_CONTROL_P; when < WHENS; when++) {
+            unsigned control = status_controls[i % 2], before = turns[i / 2].before.status, after = turns[i / 2].after;
+            unsigned expected = when < AS_BYTE_BEGINS ? after : before;
+            bring_about(&u, &turns[i / 2].before);
+            bool held = read_status(&u, control, when, turns[i / 2].word) == expected
+                     && read_status(&u, control, NOT_AT_ALL, 0) == after;
+            snprintf(name, sizeof name, "%s %s: %XH reads %XH, the next one %XH", turns[i / 2].name, places[when],
+                     control, expected, after);
+            report(name, held, "another status");
+        }
+}
+
+/* "A desk saw bit 1 at 0, wrote, and got NAK." The unit is unlocked and the host does nothing between. */
+static void status_then_write(void)
+{
+    static const unsigned writes[] = {CONTROL_COMMAND_LOCK, CONTROL_DATA_LOCK, CONTROL_COMMAND, CONTROL_DATA};
+    struct unit u;
+    char name[NAME_SIZE];
+    for (size_t w = 0; w < sizeof writes / sizeof *writes; w++)
+        for (size_t s = 0; s < 2; s++) {
+            bool held = true;
+            for (size_t i = 0; i < CLOSINGS; i++) {
+                bring_about(&u, &closings[i]);
+                unsigned status = read_status(&u, status_controls[s], NOT_AT_ALL, 0);
+                bool acked = call_unit(&u, DESK, OWN, writes[w]);
+                held = held && status != NO_STATUS && acked == !(status & STATUS_RECEPTION_CLOSED);
+            }
+            snprintf(name, sizeof name, "%XH reads bit 1: at 0 the desk's %XH gets ACK, at 1 NAK", status_controls[s],
+                     writes[w]);
+            report(name, held, "not so");
+        }
 }
 
 static void running_empty(void)
@@ -157,6 +304,9 @@ void scenes(void)
 {
     reception();
     locking();
+    status_values();
+    status_turned();
+    status_then_write();
     running_empty();
     mastering();
     losing();

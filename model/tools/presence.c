@@ -22,6 +22,8 @@ const char *const presence_names[PRESENCES] = {
     [PRESENT_HOLDER_STORED] = "bytes of the holder stored",
     [PRESENT_HOLDER_BROADCAST_STORED] = "bytes of the holder stored from broadcasts",
     [PRESENT_HOLDER_READ_TBF] = "bytes of TBF that the holder read",
+    [PRESENT_HOLDER_SAW_OPEN] = "status bytes to the holder with bit 1 as 0",
+    [PRESENT_HOLDER_SAW_CLOSED] = "status bytes to the holder with bit 1 as 1",
     [PRESENT_HOLDER_LOCKED_AGAIN] = "frames with which the holder continued its lock",
     [PRESENT_HOLDER_BAD_PARITY] = "frames of the holder with bad address parity",
     [PRESENT_HOST_READ_RBF] = "bytes that the host read from RBF",
@@ -92,6 +94,14 @@ static void count_lock_end(uint64_t *counts, const struct moment *m)
         counts[m->before->frame.control == CONTROL_STATUS_UNLOCK ? PRESENT_END_BY_6H : PRESENT_END_BY_FRAME]++;
 }
 
+static void count_holder_status(uint64_t *counts, const struct moment *m)
+{
+    const struct frame *f = &m->after->frame;
+    bool status = f->control == CONTROL_STATUS || f->control == CONTROL_STATUS_UNLOCK;
+    if (m->before->frame.field == FIELD_LENGTH && f->field == FIELD_DATA && status)
+        counts[f->out >> 1 & STATUS_RECEPTION_CLOSED ? PRESENT_HOLDER_SAW_CLOSED : PRESENT_HOLDER_SAW_OPEN]++;
+}
+
 static void count_holder_frame(uint64_t *counts, const struct moment *m)
 {
     const struct unit *b = m->before, *a = m->after;
@@ -113,6 +123,7 @@ static void count_holder_frame(uint64_t *counts, const struct moment *m)
         counts[b->frame.broadcast ? PRESENT_HOLDER_BROADCAST_STORED : PRESENT_HOLDER_STORED]++;
     if (b->frame.begun && b->frame.sending && a->tbf.count < b->tbf.count)
         counts[PRESENT_HOLDER_READ_TBF]++;
+    count_holder_status(counts, m);
     if (b->frame.length_acked && b->frame.field != WAITING && a->frame.field == WAITING && a->slrc != b->slrc
         && (b->frame.control == 0x3 || (b->frame.control & 0xE) == 0xA) && a->locked)
         counts[PRESENT_HOLDER_LOCKED_AGAIN]++;

@@ -17,6 +17,26 @@ static unsigned draw_control(struct random *r)
     return random_chance(r, 700) ? random_pick(r, accepted) : random_below(r, 16);
 }
 
+/* A desk that asks for the status, or that has asked and, mostly in its next frame, writes or reads. */
+static void draw_desk(struct traffic *t, struct master *m)
+{
+    /* 6H of the holder unlocks, so it comes less often. */
+    static const uint32_t asks[] = {CONTROL_STATUS, CONTROL_STATUS, CONTROL_STATUS, CONTROL_STATUS_UNLOCK};
+    static const uint32_t transfers[] = {
+        CONTROL_COMMAND_LOCK, CONTROL_DATA_LOCK, CONTROL_COMMAND, CONTROL_DATA, CONTROL_READ_LOCK, CONTROL_READ
+    };
+    struct random *r = &t->random;
+    m->broadcast = false;
+    m->slave = own_address(&t->unit);
+    bool asks_now = !t->desk_asked || random_chance(r, 200);
+    m->control = asks_now ? random_pick(r, asks) : random_pick(r, transfers);
+    if (asks_now)
+        t->desk = m->address;
+    else
+        m->address = t->desk;
+    t->desk_asked = asks_now;
+}
+
 static void draw_master(struct traffic *t, struct master *m)
 {
     struct random *r = &t->random;
@@ -27,6 +47,8 @@ static void draw_master(struct traffic *t, struct master *m)
     if (m->broadcast && random_chance(r, 400))
         m->slave = GENERAL_BROADCAST;
     m->control = draw_control(r);
+    if (random_chance(r, t->habits.ask))
+        draw_desk(t, m);
     m->length = draw_length(r);
     m->bad_fields = random_chance(r, 120) ? 1u << (FIELD_MASTER + random_below(r, 4)) : 0;
 }

@@ -152,6 +152,13 @@ static bool unit_wants_data(const struct traffic *t)
     return f->field >= FIELD_LENGTH && f->sending && t->unit.tbf.count == 0;
 }
 
+/* The unit has accepted 0H, 4H, 5H or 6H. */
+static bool unit_answers(const struct traffic *t)
+{
+    const struct frame *f = &t->unit.frame;
+    return f->field == FIELD_LENGTH && f->sending && !f->master && !f->begun;
+}
+
 /* Host words at the places where a rule asks whether they come too early or too late. */
 static void timely_words(struct traffic *t, struct line *l)
 {
@@ -166,6 +173,9 @@ static void timely_words(struct traffic *t, struct line *l)
         host_turn_uar(t);
     if (l->field == FIELD_CONTROL && t->unit.rbf.count > 0 && random_chance(r, l->timely / 8))
         host_empty_rbf(t);
+    /* "A status or lock byte is fixed when its data field first begins." */
+    if (l->field == FIELD_LENGTH && unit_answers(t) && random_chance(r, l->timely / 8))
+        host_after_judgement(t);
     /* An offer after the contest lets a loser whose request was aborted send as a slave. */
     if (!t->habits.quiet && l->field == FIELD_SLAVE && l->count == 0 && random_chance(r, l->timely))
         host_offer(t);

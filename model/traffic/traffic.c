@@ -87,6 +87,14 @@ static void draw_theme(struct habits *h, uint32_t theme)
         h->own_slave = h->enable = h->empty_rbf = 900;
         h->offer = 600;
         break;
+    /* RBF is seldom emptied, so that a desk meets each reason for status bit 1. */
+    case 5:
+        h->request = h->offer = h->empty_rbf = 0;
+        h->ask = 800;
+        h->own_slave = 900;
+        h->enable = 500;
+        h->cut = 200;
+        break;
     }
 }
 
@@ -108,6 +116,7 @@ static void draw_habits(struct traffic *t)
     t->habits.own_slave = random_pick(r, often);
     t->habits.cut = random_pick(r, cuts);
     t->habits.read_request = 400;
+    t->habits.ask = 0;
     t->habits.spoil = t->habits.meddle = 40;
     draw_theme(&t->habits, random_below(r, 8));
 }

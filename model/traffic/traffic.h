@@ -18,6 +18,7 @@ struct habits {
     uint32_t enable;         /* the host sets SLRE */
     uint32_t empty_rbf;      /* the host reads RBF until it is empty */
     uint32_t own_slave;      /* a simulated master calls the unit */
+    uint32_t ask;            /* it is a desk that asks for the status, or that has asked and writes or reads */
     uint32_t cut;            /* a frame is cut */
     uint32_t spoil;          /* a frame's first attempts all fail */
     uint32_t meddle;         /* somebody drives 0 in every A slot of a frame */
@@ -33,6 +34,8 @@ struct traffic {
     struct habits habits;
     struct unit unit;
     unsigned drive;          /* bits 9-8 of the latest answer that is no refusal */
+    unsigned desk;           /* the latest master drawn to ask for the status */
+    bool desk_asked;         /* and it has not been drawn since */
     uint32_t *words;
     uint32_t *answers;       /* the model's, place for place */
     size_t len;
