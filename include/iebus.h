@@ -266,7 +266,8 @@ enum {
 /* The status byte, which a master reads with 0H or 6H. */
 enum {
     IEBUS_STATUS_STRQ = 0x01,
-    IEBUS_STATUS_RBF_NOT_EMPTY = 0x02,
+    IEBUS_STATUS_CLOSED = 0x02,          /* SLRE was clear or RBF not empty as the byte began, so that a write would
+                                            have got NAK; where 0 is read, only a lock would have kept it out */
     IEBUS_STATUS_LOCKED = 0x04,
     IEBUS_STATUS_SENDING_ENABLED = 0x10,
     IEBUS_STATUS_ALWAYS = 0x80
