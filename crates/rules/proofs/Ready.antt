@@ -4,6 +4,7 @@ use mathlib.Core.Bool.{Bool, true, false, false≢true, not, _&&_}
 use mathlib.Core.Path.{_≡_, refl, sym, ap, _∙_}
 use mathlib.Core.List.{List}
 use Prim.Native.Nat.{ℕ, _%_}
+use borrow.Author.Tests.{not-false}
 use lib.Dec.{eqb, ltb}
 use Rattle.line.specs.Choice.{pick}
 use Rattle.line.specs.declared.slot.Slot.{Slot}
@@ -53,10 +54,6 @@ record Kept (c : Core) (a : Acted) : Type 0 where
   slre : a .core .regs .slre ≡ c .regs .slre
   rbf : (bytes : List ℕ) → rbfAfter (a .act) bytes ≡ bytes
 
-not-not : (b : Bool) → not b ≡ false → b ≡ true
-not-not true e = refl
-not-not false e = absurd (false≢true (sym e))
-
 lock-slre : (f : Frame) (whole : Bool) (r : Registers) → lockAfter f whole r .slre ≡ r .slre
 unfolding lockAfter
 lock-slre f whole r =
@@ -91,7 +88,7 @@ module _ (c : Core) where
       (λ t. record { slre = lock-slre (c .frame) whole (c .regs); rbf = λ b. refl })
       (λ t. pick-ind (Kept c) (c .frame .sends) _ _
       (λ u. record { slre = lock-slre (c .frame) whole (c .regs); rbf = λ b. refl })
-      (λ u. absurd (false≢true (sym u ∙ not-not (c .frame .sends) e))))
+      (λ u. absurd (false≢true (sym u ∙ not-false (c .frame .sends) e))))
 
   on-ended : (whole : Bool) → receivesAt (c .frame .spot .place) (c .frame) ≡ false → Kept c (endedOf c whole)
   unfolding endedOf
@@ -233,8 +230,8 @@ module _ (c : Core) (seen : Seen) where
         pick-ind Leaves (ltb n (widthOf Control)) _ _ (λ t. quiet (shiftedOf (c .frame) Control n bit))
         (λ t. pick-ind Leaves (eqb n (widthOf Control)) _ _ (λ u. gone-on _ Control n _)
         (λ u. after (c .frame) _ Length ControlAcked (control-acked _)))
-    on-field Length n bit v e = on-length n bit (not-not (c .frame .sends) e)
-    on-field Data n bit v e = on-data n bit (not-not (c .frame .sends) e)
+    on-field Length n bit v e = on-length n bit (not-false (c .frame .sends) e)
+    on-field Data n bit v e = on-data n bit (not-false (c .frame .sends) e)
 
     on-place : (p : Place) (bit : Bool) (v : View) → receivesAt p (c .frame) ≡ false
         → Leaves (step.atPlace (c .frame) p bit v)

@@ -1,5 +1,5 @@
 -- The status byte, and the judgement of a write: bit 1 is what a write would meet of a master that the lock lets in.
-use mathlib.Core.Bool.{Bool, true, false, not, _&&_, _||_, Bool·beq}
+use mathlib.Core.Bool.{Bool, true, false, not, _&&_, _||_, Bool·beq, and-false}
 use mathlib.Core.Logic.{_⊎_, inl, inr}
 use mathlib.Core.Path.{_≡_, refl, sym, ap, _∙_, subst}
 use Prim.Native.Nat.{ℕ, _+_, _*_, _/_, _%_, _<_}
@@ -123,10 +123,6 @@ level-word false = refl
 -- what comes of it where a level makes this of the frame
 abbrev pub after : State → Moved → Acted
 after s m = onMoved (core·idle false (s .core)) m (seenOf (s .tbf) (s .rbf))
-
-pub and-false : (b : Bool) → (b && false) ≡ false
-and-false true = refl
-and-false false = refl
 
 module _ (s : State) (bit : Bool) (x : WriteComes s bit) where
   abbrev f : Frame

@@ -1,6 +1,6 @@
 -- Ticket 2, "A desk saw bit 1 at 0, wrote, and got NAK": the byte that a desk reads is the status as the data field
 -- began, and its bit 1 is what the desk's write meets, until the host or a reception comes between.
-use mathlib.Core.Bool.{Bool, true, false, false≢true, _&&_, _||_}
+use mathlib.Core.Bool.{Bool, true, false, false≢true, _&&_, _||_, and-false}
 use mathlib.Core.List.{List}
 use mathlib.Core.Logic.{_⊎_, inl, inr}
 use mathlib.Core.Path.{_≡_, refl, sym, ap, ap₂, _∙_}
@@ -28,7 +28,7 @@ use Rattle.rules.specs.Slots.{coreDrive, onByteAcked, onEvent, onLengthA
 use Rattle.rules.specs.State.{State, isEmpty, ownByte, statusByte, viewOf}
 use Rattle.rules.specs.Step.{clashes, nextDrive, slotOn, stepAs, stepOf}
 use Rattle.rules.proofs.Calm.{pick-ind, pick-no, pick-yes}
-use Rattle.rules.proofs.Status.{WriteComes, after, and-false, closed, level-word, status-bits, write-answered}
+use Rattle.rules.proofs.Status.{WriteComes, after, closed, level-word, status-bits, write-answered}
 use Rattle.rules.proofs.Undisturbed.{stays-ready, step-ready, undisturbed}
 
 -- ---- the byte goes out
