@@ -9,5 +9,4 @@ pub mod Told
 pub mod Locks
 pub mod Protects
 pub mod Ruled
-pub mod Example
 pub mod Asked

@@ -2,8 +2,8 @@
 -- to 525H. Its host offers slave data; the holder reads a byte of it with 3H, breaks off, and takes two more frames of
 -- BH to end the lock. In the first list strangers read status and lock, are turned down with every other control while
 -- data is offered, broadcast, break off in every field and spoil a parity, in between there are levels, idle slots and
--- stray bits; in the second there is other noise. The claim is then applied at four places. Besides, what `Status.antt`
--- says of the status byte, on a desk that reads it and then writes.
+-- stray bits; in the second there is other noise. The claim is then applied at four places. Besides, what `Told.antt`
+-- of `rules` says of the status byte, on a desk that reads it and then writes.
 use mathlib.Core.Bool.{Bool, true, false, false≢true, not, _&&_}
 use mathlib.Core.Logic.{inl}
 use mathlib.Core.Path.{_≡_, refl, sym, ap, _∙_}

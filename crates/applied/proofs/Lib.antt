@@ -1,0 +1,2 @@
+-- Two lists and a desk.
+pub mod Example
