@@ -3,7 +3,8 @@
 -- BH to end the lock. In the first list strangers read status and lock, are turned down with every other control while
 -- data is offered, broadcast, break off in every field and spoil a parity, in between there are levels, idle slots and
 -- stray bits; in the second there is other noise. The claim is then applied at four places. Besides, what `Told.antt`
--- of `rules` says of the status byte, on a desk that reads it and then writes.
+-- of `rules` says of the status byte, on a desk that reads it and then writes; and the stories, which are computed
+-- here, so that the definitions are opened once.
 use mathlib.Core.Bool.{Bool, true, false, false≢true, not, _&&_}
 use mathlib.Core.Logic.{inl}
 use mathlib.Core.Path.{_≡_, refl, sym, ap, _∙_}
@@ -13,6 +14,7 @@ use native.Mathlib.Omega.{arith}
 use borrow.Author.Tests.{not-true}
 use lib.Count.{ones, onesIn}
 use lib.ListN.{length, take, getD}
+use Rattle.line.specs.Cases.{allGiven}
 use Rattle.line.specs.Choice.{bitOf}
 use Rattle.line.specs.Numbers.{driveReleased}
 use Rattle.line.specs.Parity as parity
@@ -45,6 +47,7 @@ use Rattle.rules.proofs.Protects.{holds}
 use Rattle.rules.proofs.Undisturbed.{touches, undisturbed}
 use Rattle.rules.proofs.Status.{WriteComes}
 use Rattle.rules.proofs.Told.{SendsStatus, byte-driven, desk-served}
+use Rattle.applied.proofs.Stories.{drivenStories, leftStories}
 
 -- ---- the holder's words, and the host's
 
@@ -134,6 +137,7 @@ goesOn s (w ∷ ws) = (s .core .regs .locked && not (s .core .regs .marq)) && go
 
 -- all that is computed
 record Computed : Type 0 where
+  stories : allGiven (leftStories ++ drivenStories) ≡ true
   waits : waiting begin
   names : begin .core .regs .holder ≡ 0x525
   spaced-first : spaced false (map classOf first) ≡ true
@@ -167,7 +171,8 @@ record Computed : Type 0 where
   individual : written .core .frame .broadcast ≡ false
 
 computed : Computed
-unfolding goesOn undisturbed touches first second framed fromMaster levels spells marks marked keeps kept spaced count
+unfolding allGiven leftStories drivenStories goesOn undisturbed touches first second framed fromMaster levels spells
+    marks marked keeps kept spaced count
     answers driven latest ones onesIn parity.parityOf parity.parityHolds parity.levelOf
     parity.levelsOf slotOf classOf frame.limitOf frame.lengthOf frame.shiftOf frame.begunOf frame.toField
     frame.doneOf frame.nextOf frame.shiftedOf frame.withLength slaves.addressedOf slaves.writesOf slaves.strangerOf
@@ -192,6 +197,7 @@ unfolding goesOn undisturbed touches first second framed fromMaster levels spell
     step.stepOf step.answerOf step.wordOf
 computed =
     record {
+      stories = refl;
       waits = refl;
       names = refl;
       spaced-first = refl;
@@ -217,6 +223,10 @@ computed =
       writes = record { at-p = refl; slave = refl; writes = refl; sound = refl; let-in = inl refl };
       individual = refl;
     }
+
+-- every story comes out as it is told
+pub story-cases : allGiven (leftStories ++ drivenStories) ≡ true
+story-cases = computed .stories
 
 pub given : Given unit 0x525 begin first second
 given =

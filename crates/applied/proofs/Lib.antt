@@ -1,2 +1,3 @@
--- Two lists and a desk.
+-- Stories, two lists and a desk.
+pub mod Stories
 pub mod Example

@@ -1,4 +1,4 @@
--- Whole lists of words, as the stories of `Cases.antt` tell them, and what is looked at after them.
+-- Whole lists of words, as the stories of `Cases.antt` and of `applied` tell them, and what is looked at after them.
 use mathlib.Core.Bool.{true, false}
 use mathlib.Core.List.{List, [], _∷_, _++_}
 use Prim.Native.Nat.{ℕ, zero, suc, _+_, _*_}
