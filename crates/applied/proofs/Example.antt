@@ -3,8 +3,7 @@
 -- BH to end the lock. In the first list strangers read status and lock, are turned down with every other control while
 -- data is offered, broadcast, break off in every field and spoil a parity, in between there are levels, idle slots and
 -- stray bits; in the second there is other noise. The claim is then applied at four places. Besides, what `Told.antt`
--- of `rules` says of the status byte, on a desk that reads it and then writes; and the stories, which are computed
--- here, so that the definitions are opened once.
+-- of `rules` says of the status byte, on a desk that reads it and then writes.
 use mathlib.Core.Bool.{Bool, true, false, false≢true, not, _&&_}
 use mathlib.Core.Logic.{inl}
 use mathlib.Core.Path.{_≡_, refl, sym, ap, _∙_}
@@ -12,42 +11,30 @@ use mathlib.Core.List.{List, [], _∷_, _++_, map}
 use Prim.Native.Nat.{ℕ, zero, suc, _+_, _*_, _-_, _/_, _%_, _≤_, _<_}
 use native.Mathlib.Omega.{arith}
 use borrow.Author.Tests.{not-true}
-use lib.Count.{ones, onesIn}
 use lib.ListN.{length, take, getD}
-use Rattle.line.specs.Cases.{allGiven}
 use Rattle.line.specs.Choice.{bitOf}
 use Rattle.line.specs.Numbers.{driveReleased}
 use Rattle.line.specs.Parity as parity
-use Rattle.line.specs.Slot.{Class, slot, host, slotOf, classOf}
+use Rattle.line.specs.Slot.{Class, slot, host, classOf}
 use Rattle.line.specs.declared.slot.Slot.the-variants.{Level}
-use Rattle.place.specs.Frame as frame
-use Rattle.place.specs.Slaves as slaves
-use Rattle.place.specs.Drive as drive
 use Rattle.place.specs.Drive.{sentOf}
 use Rattle.place.specs.declared.Field.the-variants.{Length, Data}
 use Rattle.place.specs.declared.Place.the-variants.{In}
-use Rattle.place.specs.Masters as masters
-use Rattle.place.specs.Step as level
 use Rattle.place.specs.Cases.{field}
 use Rattle.line.proofs.Either.{both}
 use Rattle.isolation.specs.Words.{count, framed, fromMaster, keeps, kept, levels, marked, marks, spaced, spells}
 use Rattle.isolation.specs.Runs.{Alike, Behind, Compared, Given, Places, Protected, answers, driven, latest, run, shown}
 use Rattle.isolation.proofs.Unwind.{shorter}
-use Rattle.rules.specs.State as state
 use Rattle.rules.specs.State.{State, reset}
-use Rattle.rules.specs.Endings as endings
-use Rattle.rules.specs.Slots as slots
-use Rattle.rules.specs.Registers as registers
-use Rattle.rules.specs.Step as step
 use Rattle.rules.specs.Step.{nextDrive}
 use Rattle.rules.specs.Stories.{answered, asksToWrite, brokenOff, exchange, header, lockTaken, read, readOut}
 use Rattle.rules.specs.Stories.{setUp, toAll, write}
 use Rattle.rules.specs.Machine.{observed, unit, waiting}
+use Rattle.rules.specs.Opened.{allRules}
 use Rattle.rules.proofs.Protects.{holds}
 use Rattle.rules.proofs.Undisturbed.{touches, undisturbed}
 use Rattle.rules.proofs.Status.{WriteComes}
 use Rattle.rules.proofs.Told.{SendsStatus, byte-driven, desk-served}
-use Rattle.applied.proofs.Stories.{drivenStories, leftStories}
 
 -- ---- the holder's words, and the host's
 
@@ -137,7 +124,6 @@ goesOn s (w ∷ ws) = (s .core .regs .locked && not (s .core .regs .marq)) && go
 
 -- all that is computed
 record Computed : Type 0 where
-  stories : allGiven (leftStories ++ drivenStories) ≡ true
   waits : waiting begin
   names : begin .core .regs .holder ≡ 0x525
   spaced-first : spaced false (map classOf first) ≡ true
@@ -171,33 +157,10 @@ record Computed : Type 0 where
   individual : written .core .frame .broadcast ≡ false
 
 computed : Computed
-unfolding allGiven leftStories drivenStories goesOn undisturbed touches first second framed fromMaster levels spells
-    marks marked keeps kept spaced count
-    answers driven latest ones onesIn parity.parityOf parity.parityHolds parity.levelOf
-    parity.levelsOf slotOf classOf frame.limitOf frame.lengthOf frame.shiftOf frame.begunOf frame.toField
-    frame.doneOf frame.nextOf frame.shiftedOf frame.withLength slaves.addressedOf slaves.writesOf slaves.strangerOf
-    slaves.openTo slaves.byValue slaves.controlOf slaves.acceptedOf drive.sentOf drive.repliedOf drive.driveIn
-    drive.driveOf masters.contestedOf masters.ownBit masters.clashOf masters.lostOf level.heardOf level.headerAck
-    level.textAck level.goOn level.afterAck level.atBroadcast level.masterOf level.atMaster level.withSlave
-    level.slaveJudged level.atSlave level.withControl level.controlJudged level.atControl level.withAck
-    level.lengthJudged level.atLength level.dataJudged level.countedOf level.ackedOf level.lastOf level.wholeOf
-    level.endsOf level.againOf level.dataAcked level.atData level.atField level.overruledOf level.inField
-    level.levelOf run state.isEmpty state.pushOf state.tbfAfter state.rbfAfter state.takesPart state.statusByte
-    state.ownByte endings.endCode endings.draws endings.ties endings.frees endings.lockAfter endings.requestEnded
-    endings.sendingEnded endings.receptionEnded endings.partEnded endings.dataEnded endings.lengthEnded
-    endings.endedOf endings.leftOf endings.cutOf slots.begun slots.onStart slots.onIdle slots.onLost slots.onAddressed
-    slots.withCode slots.sendingBegun slots.lengthDrawn slots.onControlAcked slots.wanted slots.byteDrawn
-    slots.otherParty slots.headerOf endings.receptionCode slots.withCount slots.countOf slots.receptionBegun
-    slots.onLengthAcked slots.counted slots.nextDrawn slots.onByteAcked slots.lastAcked slots.onEvent slots.onLevel
-    slots.coreDrive registers.ctrRefusal registers.cmrRefusal registers.uarRefusal registers.requestRefusal
-    registers.mcrListed registers.tbfRefusal registers.writeRefusal registers.lorCopied registers.requested
-    registers.commanded registers.uar1Written registers.mcrWritten registers.written registers.readRefusal
-    registers.strByte registers.flgByte registers.rcrByte registers.readValue registers.writeDone
-    registers.writeTold registers.readTold registers.toldOf step.nextDrive step.clashes step.slotOn step.slotSaid
-    step.stepOf step.answerOf step.wordOf
+unfolding goesOn undisturbed touches first second framed fromMaster levels spells marks marked keeps kept spaced count
+    driven latest allRules
 computed =
     record {
-      stories = refl;
       waits = refl;
       names = refl;
       spaced-first = refl;
@@ -223,10 +186,6 @@ computed =
       writes = record { at-p = refl; slave = refl; writes = refl; sound = refl; let-in = inl refl };
       individual = refl;
     }
-
--- every story comes out as it is told
-pub story-cases : allGiven (leftStories ++ drivenStories) ≡ true
-story-cases = computed .stories
 
 pub given : Given unit 0x525 begin first second
 given =

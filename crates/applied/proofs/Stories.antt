@@ -1,17 +1,110 @@
 -- Stories: whole lists of words run by the definitions, with what they leave and what is answered. Those that an edit
 -- of a rule needs stand in `Cases.antt` of `rules`.
+use mathlib.Core.Bool.{true}
+use mathlib.Core.Path.{_≡_, refl}
 use mathlib.Core.List.{List, [], _∷_, _++_}
-use Rattle.line.specs.Cases.{Case, _gives_}
+use Prim.Native.Nat.{ℕ}
+use Rattle.line.specs.Cases.{Case, _gives_, allGiven}
 use Rattle.line.specs.Choice.{_▹_}
-use Rattle.place.specs.Cases.{answered, field, heard, released, times}
-use Rattle.rules.specs.Stories.{write, read, header, exchange, toAll, setUp, asReset, rcr, flg, lock, rdr1, rdr2, tbf}
-use Rattle.rules.specs.Stories.{rbf, answering, taken, values, asSlave, tells, asMaster, reception, to456, asksToWrite}
-use Rattle.rules.specs.Stories.{masterWrite, asksToRead, masterRead, wanted, ranEmpty, lockTaken, readOut}
-use Rattle.rules.specs.Stories.{lockCompleted, stranger6, holder6, contender, lastLoss, lost, lostTwice, lostAnew}
-use Rattle.rules.specs.Stories.{heldBack, thirdFrame, length256, group, masterStarts, masterWants, tooLong, triesOn}
-use Rattle.rules.specs.Stories.{outlastedBroken, ranEmpty7, unheard6, comesAgain, twoOffered, twoSent, offerOutlasts}
-use Rattle.rules.specs.Stories.{statusAsked, unheard, from525, turnedDown, filled, oneOffered, askedAfter}
-use Rattle.rules.specs.Stories.{asksThenWrites, tellsThenGives, _leaves_}
+use Rattle.place.specs.Cases.{answered, attemptsOf, field, heard, released, spoilt, times}
+use Rattle.rules.specs.Opened.{allRules}
+use Rattle.rules.specs.Stories.{write, read, header, exchange, brokenOff, toAll, setUp, asReset, rcr, flg, lock, rdr1}
+use Rattle.rules.specs.Stories.{rdr2, tbf, rbf, answering, taken, values, asSlave, tells, reception, to456}
+use Rattle.rules.specs.Stories.{asksToWrite, asksToRead, masterRead, offered, lockTaken, readOut, lockCompleted}
+use Rattle.rules.specs.Stories.{asksAnew, contender, loss, heldBack, group, masterStarts, masterWants, triesOn}
+use Rattle.rules.specs.Stories.{from525, twoOffered, askedAfter, statusAsked, unheard, turnedDown, filled, oneOffered}
+use Rattle.rules.specs.Stories.{_leaves_}
+
+-- ---- words
+
+-- what the master 123H drives after the idle slot: start, broadcast bit, its address, 456H, control and the rest
+abbrev asMaster : ℕ → ℕ → List ℕ → List ℕ
+asMaster bit control rest =
+    2 ∷ bit ∷ field 12 0x123 ++ answered 12 0x456 1 ++ answered 4 control 1 ++ rest ++ released 2
+
+-- a master write of two bytes to 456H
+abbrev masterWrite : List ℕ
+masterWrite = asksToWrite 0x8F ++ 3 ∷ exchange 0x123 0x456 0xF 2 (0xAA ∷ 0xBB ∷ [])
+
+-- slave sending with 3H: the length says 3, one byte is there, so more is wanted when it is drawn, and it aborts at
+-- its ACK
+abbrev wanted : List ℕ
+wanted = offered ++ header 0x525 0x123 0x3 0 ++ answered 8 3 0
+
+abbrev ranEmpty : List ℕ
+ranEmpty = wanted ++ answered 8 0x11 0 ++ 3 ∷ []
+
+-- 6H of a stranger is NAK; of the holder it reads the status, which still shows the lock, and unlocks
+abbrev stranger6 : List ℕ
+stranger6 = lockTaken ++ header 0x111 0x123 0x6 1 ++ 3 ∷ []
+
+abbrev holder6 : List ℕ
+holder6 = stranger6 ++ exchange 0x525 0x123 0x6 1 (0x96 ∷ [])
+
+-- a contest lost without a retry
+abbrev lastLoss : List ℕ
+lastLoss = contender 0x8F ++ 3 ∷ exchange 0x023 0x123 0xF 1 (0x42 ∷ [])
+
+-- "After the first attempt and MCR's retries all lost, the request is aborted"; the next one has its own retries
+abbrev lost : ℕ → List ℕ
+lost n = times n (2 ∷ 1 ∷ field 12 0x023)
+
+abbrev lostTwice : List ℕ
+lostTwice = loss ++ lost 1
+
+abbrev lostAnew : List ℕ
+lostAnew = lostTwice ++ 3 ∷ asksAnew ++ lost 1
+
+-- the first reception read out, and a second frame and a third like it: none is deaf later
+abbrev again : ℕ → List ℕ
+again byte = read 0xE ∷ readOut ++ exchange 0x525 0x123 0xF 2 (byte ∷ 0x5B ∷ [])
+
+abbrev thirdFrame : List ℕ
+thirdFrame = reception ++ again 0xA6 ++ again 0xA7
+
+-- "length 00H means 256": one byte is not all of it
+abbrev length256 : List ℕ
+length256 = setUp ++ write 0x0 0x10 ∷ header 0x525 0x123 0xF 0 ++ answered 8 0 0 ++ answered 8 0x42 0 ++ 3 ∷ []
+
+-- "At most 16 attempts": of 17 bytes 16 are stored, and BH has not all ACKed
+abbrev tooLong : List ℕ
+tooLong = setUp ++ write 0x0 0x10 ∷ header 0x525 0x123 0xB 0 ++ answered 8 17 0 ++ attemptsOf 16
+
+-- an EH and an FH that break off: the lock outlasts them
+abbrev outlastedBroken : List ℕ
+outlastedBroken = lockTaken ++ readOut ++ brokenOff 0x525 0x123 0xE ++ readOut ++ brokenOff 0x525 0x123 0xF
+
+-- 7H that breaks off takes no lock, and 6H whose byte is not ACKed ends none
+abbrev ranEmpty7 : List ℕ
+ranEmpty7 = offered ++ header 0x525 0x123 0x7 0 ++ answered 8 3 0 ++ answered 8 0x11 0
+
+abbrev unheard6 : List ℕ
+unheard6 = lockTaken ++ header 0x525 0x123 0x6 0 ++ answered 8 1 0 ++ answered 8 0x96 1 ++ 3 ∷ []
+
+-- a byte with a wrong P, which comes again
+abbrev comesAgain : List ℕ
+comesAgain = header 0x525 0x123 0xF 0 ++ answered 8 1 0 ++ spoilt 8 0x42 ++ 1 ∷ answered 8 0x42 0 ++ 3 ∷ []
+
+-- two bytes on their way to a master that gives NAK to the first at its first attempt
+abbrev twoSent : List ℕ
+twoSent =
+    header 0x525 0x123 0x7 0 ++ answered 8 2 0 ++ answered 8 0x11 1 ++ answered 8 0x11 0 ++ answered 8 0x22 0
+    ++ 3 ∷ []
+
+-- frames that break off in each field, the last one in its data; what is offered stays
+abbrev offerOutlasts : List ℕ
+offerOutlasts =
+    twoOffered ++ write 0x0 0x10 ∷ 2 ∷ 3 ∷ 2 ∷ 1 ∷ 3 ∷ from525 ++ 3 ∷ from525 ++ answered 12 0x123 0 ++ 3 ∷ header
+    0x525 0x123 0xF 0 ++ 3 ∷ brokenOff 0x525 0x123 0xF
+
+-- a desk reads the status with 0H or 6H, and writes with FH in the next frame; what the unit drives then
+abbrev asksThenWrites : ℕ → ℕ → ℕ → List ℕ
+asksThenWrites control status a = exchange 0x525 0x123 control 1 (status ∷ []) ++ header 0x525 0x123 0xF a ++ 3 ∷ []
+
+abbrev tellsThenGives : ℕ → ℕ → List ℕ
+tellsThenGives status a = tells status ++ asSlave (heard 4 a)
+
+-- ---- the stories
 
 -- what some words leave
 unfoldable pub leftStories : List Case
@@ -148,3 +241,7 @@ drivenStories =
     ∷ (answering (setUp ++ write 0x2 0x62 ∷ write 0x3 0x45 ∷ from525) (answered 12 0x456 0)
     gives taken (released 12 ++ 0 ∷ 1 ∷ []))
     ∷ []
+
+pub story-cases : allGiven (leftStories ++ drivenStories) ≡ true
+unfolding allGiven leftStories drivenStories allRules
+story-cases = refl

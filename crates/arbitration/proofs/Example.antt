@@ -9,24 +9,14 @@ use Prim.Native.Nat.{ℕ, suc, _/_, _%_, _*_, _≤_}
 use lib.Dec.{lit≤}
 use Rattle.line.specs.Numbers.{contestSlots}
 use Rattle.line.specs.Parity as parity
-use Rattle.line.specs.Slot.{slotOf, classOf}
 use Rattle.contenders.specs.Contest.{alike, firstOut, firstPlace, firstTwin, inRange, lossOf, lossesOf, numberOf}
 use Rattle.contenders.specs.Contest.{remaining, settled}
 use Rattle.contenders.specs.Cases.{broadcast, ordinary}
 use Rattle.contenders.specs.declared.Contender.{Contender}
-use Rattle.place.specs.Frame as frame
-use Rattle.place.specs.Slaves as slaves
-use Rattle.place.specs.Drive as drive
-use Rattle.place.specs.Masters as masters
-use Rattle.place.specs.Step as level
 use Rattle.isolation.specs.Runs.{run}
-use Rattle.rules.specs.State as state
 use Rattle.rules.specs.State.{State, reset}
-use Rattle.rules.specs.Endings as endings
-use Rattle.rules.specs.Slots as slots
-use Rattle.rules.specs.Registers as registers
-use Rattle.rules.specs.Step as step
 use Rattle.rules.specs.Machine.{unit}
+use Rattle.rules.specs.Opened.{allRules}
 use Rattle.rules.specs.Stories.{write}
 use Rattle.arbitration.specs.Group.{Contending, OneRule, after, contenders, leading, levels, remains, settles}
 use Rattle.arbitration.proofs.OneRule.{one-rule}
@@ -64,15 +54,7 @@ record Begun : Type 0 where
   named : contenders asked ≡ four
 
 begun : Begun
-unfolding asked listening after levels settles parity.levelOf slotOf classOf frame.limitOf frame.shiftOf frame.begunOf
-    frame.toField frame.doneOf frame.nextOf frame.shiftedOf slaves.writesOf drive.sentOf drive.driveIn drive.driveOf
-    masters.contestedOf masters.ownBit masters.clashOf masters.lostOf level.atBroadcast level.atMaster level.atField
-    level.overruledOf level.inField level.levelOf run state.isEmpty state.pushOf state.tbfAfter state.rbfAfter
-    state.takesPart endings.endCode endings.requestEnded endings.endedOf endings.leftOf endings.cutOf slots.begun
-    slots.onStart slots.onIdle slots.onLost slots.onEvent slots.onLevel slots.coreDrive registers.cmrRefusal
-    registers.uarRefusal registers.requestRefusal registers.mcrListed registers.tbfRefusal registers.writeRefusal
-    registers.requested registers.commanded registers.uar1Written registers.mcrWritten registers.written
-    registers.writeDone registers.writeTold registers.toldOf step.nextDrive step.clashes step.slotOn step.stepOf
+unfolding asked listening after levels settles allRules
 begun = record { take-part = refl; stand-by = refl; named = refl }
 
 -- neither 14 nor 15 is given for them

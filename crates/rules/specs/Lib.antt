@@ -7,5 +7,6 @@ pub mod Registers
 pub mod Step
 pub mod Refusals
 pub mod Machine
+pub mod Opened
 pub mod Stories
 pub mod Cases

@@ -1,4 +1,4 @@
--- Whole lists of words, as the stories of `Cases.antt` and of `applied` tell them, and what is looked at after them.
+-- Whole lists of words, as the stories of `Cases.antt` tell them, and what is looked at after them.
 use mathlib.Core.Bool.{true, false}
 use mathlib.Core.List.{List, [], _∷_, _++_}
 use Prim.Native.Nat.{ℕ, zero, suc, _+_, _*_}
@@ -7,7 +7,7 @@ use lib.ListN.{length}
 use Rattle.line.specs.Cases.{Case, _gives_}
 use Rattle.line.specs.Choice.{bitOf, pick}
 use Rattle.line.specs.Numbers.{refusedValue}
-use Rattle.place.specs.Cases.{attemptsOf, field, heard, released, spoilt, times}
+use Rattle.place.specs.Cases.{field, heard, released, times}
 pub use Rattle.place.specs.Cases.{answered}
 use Rattle.isolation.specs.Runs.{run, answers}
 use Rattle.rules.specs.declared.state.Registers.{Registers}
@@ -145,11 +145,6 @@ asSlave rest = released 14 ++ heard 12 0 ++ rest ++ released 2
 abbrev pub tells : ℕ → List ℕ
 tells byte = asSlave (heard 4 0 ++ answered 8 1 1 ++ answered 8 byte 1)
 
--- what the master 123H drives after the idle slot: start, broadcast bit, its address, 456H, control and the rest
-abbrev pub asMaster : ℕ → ℕ → List ℕ → List ℕ
-asMaster bit control rest =
-    2 ∷ bit ∷ field 12 0x123 ++ answered 12 0x456 1 ++ answered 4 control 1 ++ rest ++ released 2
-
 -- ---- the stories
 
 -- a reception of FH with two bytes
@@ -167,9 +162,6 @@ asksFor456 mcr = to456 mcr ++ write 0xE 2 ∷ write 0xE 0xAA ∷ write 0xE 0xBB 
 abbrev pub asksToWrite : ℕ → List ℕ
 asksToWrite mcr = setUp ++ asksFor456 mcr
 
-abbrev pub masterWrite : List ℕ
-masterWrite = asksToWrite 0x8F ++ 3 ∷ exchange 0x123 0x456 0xF 2 (0xAA ∷ 0xBB ∷ [])
-
 -- a master read of one byte from 456H, with 3H, SAR1 being written last; the two bytes in TBF stay there
 abbrev pub asksToRead : List ℕ
 asksToRead =
@@ -178,16 +170,9 @@ asksToRead =
 abbrev pub masterRead : List ℕ
 masterRead = asksToRead ++ 3 ∷ exchange 0x123 0x456 0x3 1 (0x77 ∷ [])
 
--- slave sending with 3H: the length says 3, one byte is there, so more is wanted when it is drawn, and it aborts at
--- its ACK
+-- an offer whose length says 3, with one byte there
 abbrev pub offered : List ℕ
 offered = setUp ++ write 0xE 3 ∷ write 0xE 0x11 ∷ write 0x1 0x0B ∷ 3 ∷ []
-
-abbrev pub wanted : List ℕ
-wanted = offered ++ header 0x525 0x123 0x3 0 ++ answered 8 3 0
-
-abbrev pub ranEmpty : List ℕ
-ranEmpty = wanted ++ answered 8 0x11 0 ++ 3 ∷ []
 
 -- 3H whose length is NAKed: the sending is aborted, and nothing is locked
 abbrev pub lengthNak : List ℕ
@@ -206,14 +191,7 @@ readOut = read 0xE ∷ read 0xE ∷ read 0xE ∷ read 0xE ∷ write 0x0 0x10 ∷
 abbrev pub lockCompleted : List ℕ
 lockCompleted = lockTaken ++ readOut ++ exchange 0x525 0x123 0xB 1 (0x98 ∷ [])
 
--- 6H of a stranger is NAK; of the holder it reads the status, which still shows the lock, and unlocks
-abbrev pub stranger6 : List ℕ
-stranger6 = lockTaken ++ header 0x111 0x123 0x6 1 ++ 3 ∷ []
-
-abbrev pub holder6 : List ℕ
-holder6 = stranger6 ++ exchange 0x525 0x123 0x6 1 (0x96 ∷ [])
-
--- a request of 123H with one retry that loses against 023H, whose frame is for it; and with none
+-- a request of 123H with one retry that loses against 023H, whose frame is for it
 abbrev pub asksAnew : List ℕ
 asksAnew = write 0xE 1 ∷ write 0xE 0xAA ∷ write 0x1 0x08 ∷ []
 
@@ -223,39 +201,15 @@ contender mcr = setUp ++ write 0x0 0x10 ∷ to456 mcr ++ asksAnew
 abbrev pub loss : List ℕ
 loss = contender 0x9F ++ 3 ∷ exchange 0x023 0x123 0xF 1 (0x42 ∷ [])
 
-abbrev pub lastLoss : List ℕ
-lastLoss = contender 0x8F ++ 3 ∷ exchange 0x023 0x123 0xF 1 (0x42 ∷ [])
-
--- "After the first attempt and MCR's retries all lost, the request is aborted"; the next one has its own retries
-abbrev pub lost : ℕ → List ℕ
-lost n = times n (2 ∷ 1 ∷ field 12 0x023)
-
-abbrev pub lostTwice : List ℕ
-lostTwice = loss ++ lost 1
-
-abbrev pub lostAnew : List ℕ
-lostAnew = lostTwice ++ 3 ∷ asksAnew ++ lost 1
-
 -- a read request made while RBF has bytes: it holds back, so that the frame of 023H neither beats nor aborts it
 abbrev pub heldBack : List ℕ
 heldBack = reception ++ to456 0x83 ++ write 0x1 0x08 ∷ 3 ∷ exchange 0x023 0x456 0xF 1 (0x42 ∷ [])
-
--- the first reception read out, and a second frame and a third like it: none is deaf later
-abbrev pub again : ℕ → List ℕ
-again byte = read 0xE ∷ readOut ++ exchange 0x525 0x123 0xF 2 (byte ∷ 0x5B ∷ [])
-
-abbrev pub thirdFrame : List ℕ
-thirdFrame = reception ++ again 0xA6 ++ again 0xA7
 
 -- "0FH clear SLRE, a reception whose control was accepted going on"; its end clears SLRE, which 10H set meanwhile
 abbrev pub cleared : List ℕ
 cleared =
     setUp ++ write 0x0 0x10 ∷ 2 ∷ 1 ∷ field 12 0x525 ++ answered 12 0x123 0 ++ field 4 0xF ++ write 0x1 0x0F ∷ 0
     ∷ answered 8 1 0 ++ write 0x0 0x10 ∷ answered 8 0x42 0
-
--- "length 00H means 256": one byte is not all of it
-abbrev pub length256 : List ℕ
-length256 = setUp ++ write 0x0 0x10 ∷ header 0x525 0x123 0xF 0 ++ answered 8 0 0 ++ answered 8 0x42 0 ++ 3 ∷ []
 
 -- a group broadcast, of one byte, and a BH to all that breaks off: "broadcasts do neither"
 abbrev pub group : List ℕ
@@ -272,10 +226,6 @@ masterStarts mcr =
 abbrev pub masterWants : List ℕ
 masterWants = masterStarts 0x8F ++ answered 12 0x456 0 ++ answered 4 0xF 0 ++ answered 8 2 0
 
--- "At most 16 attempts": of 17 bytes 16 are stored, and BH has not all ACKed
-abbrev pub tooLong : List ℕ
-tooLong = setUp ++ write 0x0 0x10 ∷ header 0x525 0x123 0xB 0 ++ answered 8 17 0 ++ attemptsOf 16
-
 -- a master, in the mode that UAR1 gives, whose first byte gets NAK 16 times before both are taken
 abbrev pub triesOn : ℕ → List ℕ
 triesOn uar1 =
@@ -284,25 +234,15 @@ triesOn uar1 =
 
 -- ---- the lock
 
--- it outlasts a complete EH and a complete FH of the holder, and those that break off
+-- it outlasts a complete EH and a complete FH of the holder
 abbrev pub outlasted : List ℕ
 outlasted =
     lockTaken ++ readOut ++ exchange 0x525 0x123 0xE 1 (0x98 ∷ []) ++ readOut ++ exchange 0x525 0x123 0xF 1
     (0x97 ∷ [])
 
-abbrev pub outlastedBroken : List ℕ
-outlastedBroken = lockTaken ++ readOut ++ brokenOff 0x525 0x123 0xE ++ readOut ++ brokenOff 0x525 0x123 0xF
-
 -- and an EH or FH that breaks off takes none
 abbrev pub noneTaken : List ℕ
 noneTaken = setUp ++ write 0x0 0x10 ∷ brokenOff 0x525 0x123 0xE ++ readOut ++ brokenOff 0x525 0x123 0xF
-
--- 7H that breaks off takes none either, and 6H whose byte is not ACKed ends none
-abbrev pub ranEmpty7 : List ℕ
-ranEmpty7 = offered ++ header 0x525 0x123 0x7 0 ++ answered 8 3 0 ++ answered 8 0x11 0
-
-abbrev pub unheard6 : List ℕ
-unheard6 = lockTaken ++ header 0x525 0x123 0x6 0 ++ answered 8 1 0 ++ answered 8 0x96 1 ++ 3 ∷ []
 
 -- ended by the holder, it is taken by AH of another master
 abbrev pub takenAnew : List ℕ
@@ -314,24 +254,9 @@ takenAnew = lockCompleted ++ readOut ++ brokenOff 0x111 0x123 0xA
 abbrev pub from525 : List ℕ
 from525 = 2 ∷ 1 ∷ field 12 0x525
 
--- a byte with a wrong P, which comes again
-abbrev pub comesAgain : List ℕ
-comesAgain = header 0x525 0x123 0xF 0 ++ answered 8 1 0 ++ spoilt 8 0x42 ++ 1 ∷ answered 8 0x42 0 ++ 3 ∷ []
-
--- an offer of two bytes, and their way to a master that gives NAK to the first at its first attempt
+-- an offer of two bytes
 abbrev pub twoOffered : List ℕ
 twoOffered = setUp ++ write 0xE 2 ∷ write 0xE 0x11 ∷ write 0xE 0x22 ∷ write 0x1 0x0B ∷ []
-
-abbrev pub twoSent : List ℕ
-twoSent =
-    header 0x525 0x123 0x7 0 ++ answered 8 2 0 ++ answered 8 0x11 1 ++ answered 8 0x11 0 ++ answered 8 0x22 0
-    ++ 3 ∷ []
-
--- frames that break off in each field, the last one in its data; what is offered stays
-abbrev pub offerOutlasts : List ℕ
-offerOutlasts =
-    twoOffered ++ write 0x0 0x10 ∷ 2 ∷ 3 ∷ 2 ∷ 1 ∷ 3 ∷ from525 ++ 3 ∷ from525 ++ answered 12 0x123 0 ++ 3 ∷ header
-    0x525 0x123 0xF 0 ++ 3 ∷ brokenOff 0x525 0x123 0xF
 
 -- 0H or 6H behind the master address, up to the status byte, with some words before the slot that ends the length; and
 -- so many NAKs for the byte
@@ -343,13 +268,6 @@ statusAsked = askedAfter 0x0 []
 
 abbrev pub unheard : ℕ → List ℕ
 unheard n = times n (answered 8 0x92 1)
-
--- a desk reads the status with 0H or 6H, and writes with FH in the next frame; what the unit drives then
-abbrev pub asksThenWrites : ℕ → ℕ → ℕ → List ℕ
-asksThenWrites control status a = exchange 0x525 0x123 control 1 (status ∷ []) ++ header 0x525 0x123 0xF a ++ 3 ∷ []
-
-abbrev pub tellsThenGives : ℕ → ℕ → List ℕ
-tellsThenGives status a = tells status ++ asSlave (heard 4 a)
 
 -- ---- registers
 
