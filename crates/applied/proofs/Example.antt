@@ -18,7 +18,7 @@ use Rattle.line.specs.Parity as parity
 use Rattle.line.specs.Slot.{Class, slot, host, classOf}
 use Rattle.line.specs.declared.slot.Slot.the-variants.{Level}
 use Rattle.place.specs.Drive.{sentOf}
-use Rattle.place.specs.declared.Field.the-variants.{Length, Data}
+use Rattle.place.specs.declared.Field.the-variants.{Length}
 use Rattle.place.specs.declared.Place.the-variants.{In}
 use Rattle.place.specs.Cases.{field}
 use Rattle.line.proofs.Either.{both}
@@ -34,7 +34,7 @@ use Rattle.rules.specs.Opened.{allRules}
 use Rattle.rules.proofs.Protects.{holds}
 use Rattle.rules.proofs.Undisturbed.{touches, undisturbed}
 use Rattle.rules.proofs.Status.{WriteComes}
-use Rattle.rules.proofs.Told.{SendsStatus, byte-driven, desk-served}
+use Rattle.rules.proofs.Told.{SendsStatus, byte-driven, desk-served, sends-first}
 
 -- ---- the holder's words, and the host's
 
@@ -150,7 +150,6 @@ record Computed : Type 0 where
       ≡ record { tbf = []; rbf = 0x52 ∷ 0x5B ∷ 0x01 ∷ 0x98 ∷ []; locked = false; holder = 0; marc = 3; slrc = 6 }
   -- the desk that reads the status and then writes
   asks : SendsStatus asking (In Length 9)
-  begins : SendsStatus (unit .step asking 0) (In Data 0)
   tells : unit .step asking 0 .core .frame .byte ≡ 0x90
   free : undisturbed (unit .step asking 0) writing ≡ true
   writes : WriteComes written false
@@ -180,7 +179,6 @@ computed =
       ending = refl;
       ended = refl;
       asks = record { place = refl; slave = refl; sends = refl; asked = inl refl };
-      begins = record { place = refl; slave = refl; sends = refl; asked = inl refl };
       tells = refl;
       free = refl;
       writes = record { at-p = refl; slave = refl; writes = refl; sound = refl; let-in = inl refl };
@@ -307,7 +305,7 @@ pub write-served : (unit .step asking 0 .core .frame .byte ≡ 0x90) × (nextDri
 unfolding sentOf parity.levelOf
 write-served = (
   computed .tells,
-  byte-driven (unit .step asking 0) 0 (computed .begins)
+  byte-driven (unit .step asking 0) 0 (sends-first asking (computed .asks))
       ∙ ap (λ (byte : ℕ). bitOf (sentOf 8 byte 0)) (computed .tells),
   desk-served asking (computed .asks) writing false (computed .free) (computed .writes) (computed .individual)
       ∙ ap (λ (byte : ℕ). 0x8000_0000 + byte / 2 % 2 * 256) (computed .tells),

@@ -3,11 +3,13 @@
 use mathlib.Core.Bool.{Bool, true, false, false≢true, _&&_, _||_, and-false}
 use mathlib.Core.List.{List}
 use mathlib.Core.Logic.{_⊎_, inl, inr}
-use mathlib.Core.Path.{_≡_, refl, sym, ap, ap₂, _∙_}
-use Prim.Native.Nat.{ℕ, _+_, _*_, _/_, _%_}
+use mathlib.Core.Path.{_≡_, refl, sym, ap, ap₂, subst, _∙_}
+use Prim.Native.Nat.{ℕ, suc, _+_, _*_, _/_, _%_, _<_}
+use native.Mathlib.Omega.{arith}
+use borrow.Author.Tests.{eqb-false, ltb-false}
 use lib.Dec.{eqb, ltb}
 use Rattle.line.specs.Choice.{bitOf, pick}
-use Rattle.line.specs.Slot.{Class, classOf, slotOf}
+use Rattle.line.specs.Slot.{Class, host, classOf, slotOf}
 use Rattle.place.specs.Drive.{driveIn, driveOf, sentOf}
 use Rattle.place.specs.Frame.{doneOf, nextOf, shiftedOf, toField, widthOf}
 use Rattle.place.specs.Masters.{clashOf}
@@ -25,8 +27,9 @@ use Rattle.isolation.specs.Runs.{run}
 use Rattle.rules.specs.Endings.{draws, leftOf}
 use Rattle.rules.specs.Machine.{unit}
 use Rattle.rules.specs.Slots.{coreDrive, onByteAcked, onEvent, onLengthAcked, onLevel}
-use Rattle.rules.specs.State.{State, isEmpty, ownByte, statusByte, viewOf}
-use Rattle.rules.specs.Step.{clashes, nextDrive, slotOn, stepAs, stepOf}
+use Rattle.rules.specs.Registers.{Told, wrote, restarted, gave, denied, toldOf}
+use Rattle.rules.specs.State.{State, isEmpty, ownByte, reset, statusByte, viewOf}
+use Rattle.rules.specs.Step.{actedOn, clashes, nextDrive, slotOn, stepAs, stepOf, toldOn}
 use Rattle.rules.proofs.Calm.{pick-ind, pick-no, pick-yes}
 use Rattle.rules.proofs.Status.{WriteComes, after, closed, level-word, status-bits, write-answered}
 use Rattle.rules.proofs.Undisturbed.{stays-ready, step-ready, undisturbed}
@@ -101,6 +104,36 @@ module _ (s : State) (n : ℕ) (x : SendsStatus s (In Data n)) where
       ∙ pick-no (clashOf h Data n bit (viewOf (s .core .regs) (isEmpty (s .rbf)))) _ _ (rw (x .slave)))
       ∙ on-data bit)
 
+  -- and the unit goes on to the next slot of the field, up to the one of the ACK
+  Goes : Moved → Type 0
+  Goes m = SendsStatus (actedOn s (after s m)) (In Data (suc n))
+
+  on : (f : Frame) → f .spot .place ≡ In Data (suc n) → f .leads ≡ false → f .sends ≡ true → f .control ≡ h .control
+      → Goes (moved Quiet f)
+  unfolding Goes onEvent
+  on f p l q c = record { place = p; slave = l; sends = q; asked = rw c (x .asked) }
+
+  next-slot : n < 9 → (bit : Bool) → Goes (atData h n bit)
+  unfolding atData dataJudged goOn nextOf shiftedOf
+  next-slot l bit =
+      let e : n % 16 + 1 ≡ suc n = omega arith in
+      pick-ind Goes (ltb n (widthOf Data)) _ _ (λ t. on _ (ap (In Data) e) (x .slave) (x .sends) refl)
+      (λ t. pick-ind Goes (eqb n (widthOf Data)) _ _
+      (λ u. pick-ind Goes (h .sends) _ _ (λ y. on _ (ap (In Data) e) (x .slave) (x .sends) refl)
+      (λ y. absurd (false≢true (sym y ∙ x .sends))))
+      (λ u. absurd (omega (arith, ltb-false n 8 t, eqb-false n 8 u))))
+
+  pub sends-on : n < 9 → (bit : Bool) → clashes s bit ≡ false
+      → SendsStatus (unit .step s (bitOf bit)) (In Data (suc n))
+  unfolding stepOf slotOn onLevel levelOf inField clashOf atField Goes
+  sends-on l bit free =
+      let v = viewOf (s .core .regs) (isEmpty (s .rbf)) in
+      subst (λ (t : State). SendsStatus t (In Data (suc n)))
+      (sym (ap (λ (k : Class). stepAs k s (bitOf bit)) (level-word bit) ∙ pick-no (clashes s bit) _ _ free
+      ∙ ap (λ (m : Moved). actedOn s (after s m)) (ap (λ (p : Place). atPlace h p bit v) (x .place)
+      ∙ pick-no (clashOf h Data n bit v) _ _ (rw (x .slave)))))
+      (next-slot l bit)
+
 -- ---- the byte is fixed
 
 -- an ACK is heard by whoever sends
@@ -138,6 +171,24 @@ module _ (s : State) (x : SendsStatus s (In Length 9)) where
       ap (λ (m : Moved). after s m .core .frame .byte) (begins (viewOf (s .core .regs) (isEmpty (s .rbf))))
       ∙ own-status (x .asked)
 
+  first-slot : SendsStatus (actedOn s (after s (moved LengthAcked (toField g Data)))) (In Data 0)
+  unfolding onEvent onLengthAcked toField
+  first-slot =
+      let own : draws (toField g Data) ≡ false = own-bytes (toField g Data) (x .slave) (x .asked) in
+      record {
+        place = rw (own, x .sends);
+        slave = rw (own, x .sends) (x .slave);
+        sends = rw (own, x .sends);
+        asked = rw (own, x .sends) (x .asked);
+      }
+
+  -- the unit is then in its first slot
+  pub sends-first : SendsStatus (unit .step s 0) (In Data 0)
+  unfolding stepOf slotOn clashes classOf slotOf onLevel
+  sends-first =
+      subst (λ (m : Moved). SendsStatus (actedOn s (after s m)) (In Data 0))
+      (sym (begins (viewOf (s .core .regs) (isEmpty (s .rbf))))) first-slot
+
   -- and its bit 1 holds as long as the host leaves SLRE and RBF, and the unit receives nothing
   pub told-stays : (A : List ℕ) → undisturbed (unit .step s 0) A ≡ true
       → closed (run unit (unit .step s 0) A) ≡ unit .step s 0 .core .frame .byte / 2 % 2
@@ -159,3 +210,17 @@ module _ (s : State) (x : SendsStatus s (In Length 9)) where
   desk-served A bit e y single =
       write-answered (run unit (unit .step s 0) A) bit y single
       ∙ ap (λ (n : ℕ). 0x8000_0000 + n * 256) (told-stays A e)
+
+-- ---- the host
+
+-- a word of the host's leaves the frame as it is, the byte too, or resets the unit
+pub frame-stays : (s : State) (w : ℕ) → classOf w ≡ host
+    → (unit .step s w .core .frame ≡ s .core .frame) ⊎ (unit .step s w ≡ reset)
+unfolding stepOf
+frame-stays s w e = rw e (told (toldOf (s .core .regs) (s .tbf) (s .rbf) w))
+  where
+    told : (y : Told) → (toldOn s y .core .frame ≡ s .core .frame) ⊎ (toldOn s y ≡ reset)
+    told (wrote r tbf) = inl refl
+    told restarted = inr refl
+    told (gave rbf v) = inl refl
+    told (denied n) = inl refl

@@ -1,5 +1,5 @@
 -- The marked cases of this layer, added to those below, and the stories (`Stories.antt`) that an edit of a rule needs.
--- The others are in `applied`, where no edit pays for them.
+-- The others are in `applied`.
 use mathlib.Core.Bool.{true, false}
 use mathlib.Core.Path.{_≡_, refl}
 use mathlib.Core.List.{List, [], _∷_, _++_}

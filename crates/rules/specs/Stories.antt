@@ -1,6 +1,7 @@
--- Whole lists of words, as the stories of `Cases.antt` tell them, and what is looked at after them.
+-- Whole lists of words, as stories tell them (`Cases.antt`, and `applied`), and what is looked at after them.
 use mathlib.Core.Bool.{true, false}
 use mathlib.Core.List.{List, [], _∷_, _++_}
+use mathlib.Core.Path.{_≡_, refl}
 use Prim.Native.Nat.{ℕ, zero, suc, _+_, _*_}
 use lib.Dec.{eqb}
 use lib.ListN.{length}
@@ -116,6 +117,12 @@ _leaves_ words left = numbers (leftIn (run unit reset words)) gives numbers left
 -- the answers to some words that come after others
 abbrev pub answering : List ℕ → List ℕ → List ℕ
 answering before words = answers unit (run unit reset before) words
+
+-- what a story looks at, for its fingerprint
+pub looked-at : (before words : List ℕ) (left : Left)
+    → ((words leaves left) ≡ (numbers (leftIn (run unit reset words)) gives numbers left))
+    × (answering before words ≡ answers unit (run unit reset before) words)
+looked-at before words left = (refl, refl)
 
 -- slots taken, each with what is driven after it: 0, 1 (released) or 2 (start)
 abbrev pub taken : List ℕ → List ℕ
