@@ -16,9 +16,9 @@ use Rattle.line.specs.Numbers.{rbfBytes, tbfBytes}
 use Rattle.line.proofs.Either.{below-or-not}
 use Rattle.line.proofs.Filled.{Filled, nothing-filled, one-filled, all-filled}
 use Rattle.list_run.proofs.Underway.{cut}
-use Rattle.lent.proofs.Circle.{items-length}
-use Rattle.lent.specs.Queue.{circleOf, heldOf, items, startOf, wrap}
-use Rattle.lent.specs.declared.buffers.Span.{Span}
+use Rattle.circles.proofs.Circle.{items-length}
+use Rattle.circles.specs.Circle.{circleOf, heldOf, items, startOf, wrap}
+use Rattle.circles.specs.declared.Span.{Span}
 use Rattle.place.specs.declared.Frame.{Frame}
 use Rattle.rules.specs.State.{State}
 use Rattle.rules.specs.declared.state.Registers.{Registers}

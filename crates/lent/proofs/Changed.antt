@@ -1,20 +1,20 @@
 -- What is done to the lent buffers is what the rules do to the lists that they hold.
 use Prim.Native.Nat.{ℕ}
-use native.Mathlib.Omega.{arith}
 use mathlib.Core.List.{List}
 use mathlib.Core.Path.{_≡_, refl, ap, _∙_}
-use lib.ListN.{drop, length}
+use lib.ListN.{length}
 use Rattle.line.specs.Numbers.{rbfBytes, tbfBytes}
 use Rattle.lent.specs.Both.{Loan, buffersIn, gaveIn, loanActed, loanDrawn, loanFilled, loanIn, resetLent}
 use Rattle.lent.specs.Both.{takenIn, writtenIn}
-use Rattle.lent.specs.Buffers.{Buffer, Buffers, buffer, emptied, listOf, popped, pushed, sentBy, storedBy}
-use Rattle.lent.specs.Queue.{circleOf, items}
-use Rattle.lent.specs.declared.buffers.Span.{Span}
+use Rattle.circles.specs.Buffers.{Buffers, emptied, sentBy, storedBy}
+use Rattle.circles.specs.Calls.{popped, pushed}
+use Rattle.circles.specs.Circle.{Buffer, buffer, circleOf, items, listOf}
+use Rattle.circles.specs.declared.Span.{Span}
 use Rattle.lent.specs.declared.step.Lent.{Lent}
-use Rattle.rules.specs.State.{pushOf, reset}
+use Rattle.rules.specs.State.{reset}
 use Rattle.rules.specs.declared.state.Acted.{Acted}
 use Rattle.rules.specs.declared.state.Core.{Core}
-use Rattle.lent.proofs.Circle.{pop-list, push-list, sent-list, stored-list}
+use Rattle.circles.proofs.Circle.{pop-list, push-list, sent-list, stored-list}
 
 -- a unit of such scalars and buffers
 abbrev loanOf : Core → Buffers → Loan
@@ -47,7 +47,7 @@ filled-state u v t t' r sent e full =
 pub drawn-state : (u : Lent) (t r : List ℕ) (v : ℕ)
     → gaveIn (loanIn (record { core = u .core; tbf = u .tbf; rbf = popped rbfBytes (u .rbf) }) t r) v
     ≡ gaveIn (loanDrawn (loanIn u t r)) v
-drawn-state u t r v = rw (pop-list rbfBytes (omega arith) r (u .rbf)) refl
+drawn-state u t r v = rw (pop-list rbfBytes r (u .rbf)) refl
 
 -- a reset
 pub reset-state : (u : Lent) (t r : List ℕ)

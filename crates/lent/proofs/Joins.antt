@@ -12,13 +12,14 @@ use Rattle.line.specs.declared.slot.Slot.{Slot}
 use Rattle.line.specs.declared.slot.Slot.the-variants.{Level, Start, Idle, Stray}
 use Rattle.line.proofs.Either.{either}
 use Rattle.lent.specs.Both.{afterDone, afterHost, afterRead, afterSlot, afterWord, afterWrite}
-use Rattle.lent.specs.Both.{Both, Runs, Works, answerTo, leftAs, leftBy, loanIn, stateIn}
+use Rattle.lent.specs.Both.{Both, Runs, Works, answerTo, buffersIn, leftAs, leftBy, loanIn, stateIn}
 use Rattle.lent.specs.declared.step.Answered.{Answered}
 use Rattle.lent.specs.declared.step.Done.{Done}
 use Rattle.lent.specs.declared.step.Lent.{Lent}
 use Rattle.lent.specs.Both.{Loan, gaveIn, loanActed, loanDrawn, loanFilled}
 use Rattle.lent.specs.Both.{loanWritten, refusedIn, slotActed, slotRefusal, takenIn, writtenIn}
-use Rattle.lent.specs.Buffers.{emptied, slotIn, wordIn}
+use Rattle.circles.specs.Buffers.{NoneMoved, emptied, slotIn, wordIn}
+use Rattle.circles.proofs.Words.{word-unmoved}
 use Rattle.rules.specs.Registers.{readRefusal, readTold, readValue, registerOf, toldOf, valueOf, writeDone}
 use Rattle.rules.specs.Registers.{writeRefusal, writeTold, written}
 use Rattle.rules.specs.State.{isEmpty, reset}
@@ -140,13 +141,16 @@ pub runs : {u : Lent} {w : ℕ} {t t' r r' : List ℕ} {a : Answered} → length
     → record { loan = loanIn (a .lent) t' r'; answer = a .answer } ≡ afterWord (loanIn u t r) w)
     → Runs u w t t' r r' a
 unfolding leftBy
-runs sent stored word =
+runs {u} {w} {t} {t'} {r} {r'} {a} sent stored word =
     record {
       tbf-kept = sent;
       rbf-kept = stored;
       state = λ ft fr. ap (λ (b : Both). b .loan .state) (word ft fr);
       answer = λ ft fr. ap (λ (b : Both). b .answer) (word ft fr);
       whole = λ ft fr. ap (λ (b : Both). leftAs (b .loan .state) (b .answer) (b .loan .buffers)) (word ft fr);
+      unmoved =
+          λ ft fr. subst (λ (b : Both). NoneMoved (buffersIn u t r) (b .loan .buffers)) (sym (word ft fr))
+          (word-unmoved (stateIn u t r) w (buffersIn u t r));
     }
 
 -- the answer, from what the word came to and what is then driven

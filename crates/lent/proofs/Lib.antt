@@ -1,5 +1,4 @@
 -- The laws that the proofs of this library share.
-pub mod Circle
 pub mod Changed
 pub mod Joins
 pub mod Listening

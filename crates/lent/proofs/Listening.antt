@@ -28,7 +28,7 @@ use Rattle.rules.specs.declared.state.Act.the-variants.{Nothing}
 use Rattle.rules.specs.declared.state.Acted.{Acted}
 use Rattle.rules.specs.declared.state.Core.{Core}
 use Rattle.rules.specs.declared.state.Seen.{Seen}
-use Rattle.lent.specs.Buffers.{sentBy, storedBy, wordIn}
+use Rattle.circles.specs.Buffers.{sentBy, storedBy, wordIn}
 use Rattle.lent.specs.Both.{Loan, afterSlot, afterWord, loanActed, slotRefusal, takenIn}
 use Rattle.rules.specs.Endings.{acted}
 use Rattle.lent.specs.Plain.{amidAt, amidOf, insideOf, listenedAt, listenedOf, plainAt, plainCore, plainOf}

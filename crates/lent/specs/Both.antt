@@ -11,6 +11,10 @@ use Rattle.line.specs.declared.slot.Slot.{Slot}
 use Rattle.line.specs.declared.slot.Slot.the-variants.{Level, Start, Idle, Stray}
 use Rattle.rules.specs.declared.answer.Answer.{Answer}
 use Rattle.rules.specs.declared.answer.Answer.the-variants.{Given, Refused}
+use Rattle.circles.specs.Buffers.{Buffers, NoneMoved, actedIn, drawn, filled, slotIn, toldIn, wordIn}
+use Rattle.circles.specs.Calls.{vacant}
+use Rattle.circles.specs.Circle.{buffer, circleOf}
+use Rattle.circles.specs.declared.Span.{Span}
 use Rattle.lent.specs.declared.answer.Outcome.{Outcome}
 use Rattle.lent.specs.declared.answer.Outcome.the-variants.{Taken as took, Written as wrote, Read as read}
 use Rattle.lent.specs.declared.answer.Outcome.the-variants.{Refused as denied}
@@ -21,12 +25,10 @@ use Rattle.rules.specs.declared.state.Seen.{Seen}
 use Rattle.lent.specs.declared.step.Answered.{Answered}
 use Rattle.lent.specs.declared.step.Done.{Done}
 use Rattle.lent.specs.declared.step.Lent.{Lent}
-use Rattle.lent.specs.Buffers.{Buffers, actedIn, buffer, drawn, filled, slotIn, toldIn, vacant, wordIn}
-use Rattle.lent.specs.Queue.{circleOf}
 use Rattle.rules.specs.Registers.{Told, readTold, registerOf, toldOf, valueOf, writeDone, writeTold}
 use Rattle.rules.specs.Slots.{onSlot}
 use Rattle.rules.specs.Set.{core·regs}
-use Rattle.rules.specs.State.{State, pushOf, resetCore, seenOf}
+use Rattle.rules.specs.State.{State, isEmpty, pushOf, resetCore, seenOf}
 use Rattle.rules.specs.Step.{actedOn, answerOf, clashes, nextDrive, slotOn, slotSaid, stepOf, toldOn, toldSaid}
 
 -- a unit whose buffers are lent: the bytes of TBF and of RBF
@@ -182,6 +184,12 @@ slotActed s c = onSlot (s .core) c (seenOf (s .tbf) (s .rbf))
 abbrev pub resetLent : Lent
 resetLent = record { core = resetCore; tbf = vacant; rbf = vacant }
 
+abbrev pub Length : ℕ → Span → ℕ → Type 0
+Length room span n = (bytes : List ℕ) → n ≡ length (circleOf room bytes span)
+
+abbrev pub Clear : ℕ → Span → Bool → Type 0
+Clear room span clear = (bytes : List ℕ) → clear ≡ isEmpty (circleOf room bytes span)
+
 abbrev pub Drives : Lent → ℕ → Type 0
 Drives u drive = (t r : List ℕ) → drive ≡ nextDrive (stateIn u t r)
 
@@ -238,10 +246,12 @@ Works u w t t' r r' d =
     × (length t ≡ tbfBytes → length r ≡ rbfBytes → bothIn d t' r' ≡ afterWord (loanIn u t r) w)
 
 -- the buffers after it have as many bytes as before; and where they are lent with all their bytes, state and answer
--- are those of the rules, and all that is left is that of the definition, each place of the arrays included
+-- are those of the rules, all that is left is that of the definition, each place of the arrays included, and no byte
+-- that stays has been moved
 pub record Runs (u : Lent) (w : ℕ) (t t' r r' : List ℕ) (a : Answered) : Type 0 where
   pub tbf-kept : length t' ≡ length t
   pub rbf-kept : length r' ≡ length r
   pub state : length t ≡ tbfBytes → length r ≡ rbfBytes → stateIn (a .lent) t' r' ≡ stepOf (stateIn u t r) w
   pub answer : length t ≡ tbfBytes → length r ≡ rbfBytes → a .answer ≡ answerOf (stateIn u t r) w
   pub whole : length t ≡ tbfBytes → length r ≡ rbfBytes → leftIn a t' r' ≡ leftBy u w t r
+  pub unmoved : length t ≡ tbfBytes → length r ≡ rbfBytes → NoneMoved (buffersIn u t r) (buffersIn (a .lent) t' r')

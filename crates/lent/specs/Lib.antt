@@ -1,6 +1,4 @@
--- How the structs of the code stand for the state of the rules, what is written to the lent arrays, what private
--- functions promise each other, and the plainest words.
-pub mod Queue
-pub mod Buffers
+-- How the structs of the code stand for the state of the rules, what private functions promise each other, and the
+-- plainest words.
 pub mod Both
 pub mod Plain

@@ -1,21 +1,18 @@
-// The two buffers, each a lent circle of bytes, and a span that says where its bytes lie: a first place and a count. A
-// count over the room counts as full, and a first place past the end as place 0, so that every value is a buffer. What
-// changes a buffer says how each place of it stands afterwards; that this is a list, oldest first, are laws
-// (`proofs/Circle.antt`).
+// The two buffers, each a lent circle of bytes with the span that says where they lie. What changes a buffer says how
+// each place of it stands afterwards; that this is a queue, and moves no byte, are laws of `circles`. What takes bytes
+// out is not lent the array.
 ghost use mathlib.Core.Path.{_≡_};
 ghost use lib.ListN.{getD};
 ghost use Prim.Native.Nat.{_+_, _<_, _≤_};
 ghost use Rattle.line.specs.Numbers.{rbfBytes, tbfBytes};
-ghost use Rattle.lent.specs.Buffers.{buffer, popped, pushed, sentBy, storedBy, vacant};
-ghost use Rattle.lent.specs.Queue.{Clear, Length, circleOf, heldOf, startOf, wrap};
+ghost use Rattle.circles.specs.Buffers.{sentBy, storedBy};
+ghost use Rattle.circles.specs.Calls.{popped, pushed, vacant};
+ghost use Rattle.circles.specs.Circle.{buffer, circleOf, heldOf, startOf, wrap};
+ghost use Rattle.lent.specs.Both.{Clear, Length};
+use circles::Span;
 use line::numbers::RBF_BYTES;
 use line::numbers::TBF_BYTES;
 use rules::state::Act;
-
-pub struct Span {
-    pub first: usize,
-    pub count: usize,
-}
 
 // How many of a count are held where there is room for so many.
 fn held(room: usize, count: usize) -> usize
@@ -49,40 +46,38 @@ fn behind(room: usize, place: usize, places: usize) -> usize
     far - room
 }
 
-impl Span {
-    pub(crate) fn none() -> Span
-        ensures { λ r. ⌜ r ≡ vacant ⌝ }
-    {
-        Span { first: 0, count: 0 }
-    }
+// The span of a buffer that holds none.
+pub(crate) fn no_bytes() -> Span
+    ensures { λ r. ⌜ r ≡ vacant ⌝ }
+{
+    Span { first: 0, count: 0 }
+}
 
-    pub(crate) fn len(self, room: usize) -> usize
-        ensures { λ r. ⌜ Length room self r ⌝ }
-    {
-        held(room, self.count)
-    }
+pub(crate) fn count_of(room: usize, span: Span) -> usize
+    ensures { λ r. ⌜ Length room span r ⌝ }
+{
+    held(room, span.count)
+}
 
-    pub(crate) fn is_empty(self, room: usize) -> bool
-        ensures { λ r. ⌜ Clear room self r ⌝ }
-    {
-        self.len(room) == 0
-    }
+pub(crate) fn is_clear(room: usize, span: Span) -> bool
+    ensures { λ r. ⌜ Clear room span r ⌝ }
+{
+    count_of(room, span) == 0
+}
 
-    // Without the oldest byte.
-    pub(crate) fn popped(mut self, room: usize) -> Span
-        requires { ⌜ (1 < room) × (room ≤ rbfBytes) ⌝ }
-        ensures { λ r. ⌜ r ≡ popped room self ⌝ }
-    {
-        let count = held(room, self.count);
-        if count == 0 {
-            return self;
-        }
-        let first = start(room, self.first);
-        let next = behind(room, first, 1);
-        self.first = next;
-        self.count = count - 1;
-        self
+pub(crate) fn without_oldest(room: usize, mut span: Span) -> Span
+    requires { ⌜ (1 < room) × (room ≤ rbfBytes) ⌝ }
+    ensures { λ r. ⌜ r ≡ popped room span ⌝ }
+{
+    let count = held(room, span.count);
+    if count == 0 {
+        return span;
     }
+    let first = start(room, span.first);
+    let next = behind(room, first, 1);
+    span.first = next;
+    span.count = count - 1;
+    span
 }
 
 // The oldest byte of TBF; 0 where there is none.
@@ -145,8 +140,8 @@ pub(crate) fn tbf_after(act: Act, span: Span) -> Span
 {
     match act {
         Act::Nothing => span,
-        Act::Take => span.popped(TBF_BYTES),
-        Act::Empty => Span::none(),
+        Act::Take => without_oldest(TBF_BYTES, span),
+        Act::Empty => no_bytes(),
         Act::Header(_, _, _) => span,
         Act::Byte(_) => span,
     }

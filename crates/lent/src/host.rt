@@ -3,8 +3,11 @@ ghost use mathlib.Core.Path.{_≡_};
 ghost use Rattle.rules.specs.Set.{core·regs};
 ghost use Rattle.lent.specs.Both.{Does, ReadsFrom, TakesOut, Tells, WritesTo};
 use crate::answer::Outcome;
+use crate::buffers::count_of;
+use crate::buffers::is_clear;
 use crate::buffers::rbf_front;
 use crate::buffers::tbf_push;
+use crate::buffers::without_oldest;
 use crate::step::Done;
 use crate::step::Lent;
 use line::numbers::CTR_RESET;
@@ -55,7 +58,7 @@ impl Lent {
     {
         let core = self.core;
         let sent = self.tbf;
-        let number = write_refusal(core.regs, sent.len(TBF_BYTES), register, v);
+        let number = write_refusal(core.regs, count_of(TBF_BYTES, sent), register, v);
         if number == 0 {
             return self.write_done(register, v, tbf);
         }
@@ -68,7 +71,7 @@ impl Lent {
     {
         let stored = self.rbf;
         let byte = rbf_front(rbf, stored);
-        let rest = stored.popped(RBF_BYTES);
+        let rest = without_oldest(RBF_BYTES, stored);
         self.rbf = rest;
         self.done(Outcome::Read(byte))
     }
@@ -79,15 +82,15 @@ impl Lent {
         let core = self.core;
         let sent = self.tbf;
         let stored = self.rbf;
-        let number = read_refusal(register, stored.is_empty(RBF_BYTES));
+        let number = read_refusal(register, is_clear(RBF_BYTES, stored));
         if number == 0 {
             if register == REG_RBF {
                 return self.read_rbf(rbf);
             }
             return self.done(Outcome::Read(read_value(
                 core.regs,
-                sent.len(TBF_BYTES),
-                stored.len(RBF_BYTES),
+                count_of(TBF_BYTES, sent),
+                count_of(RBF_BYTES, stored),
                 register,
             )));
         }

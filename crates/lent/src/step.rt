@@ -4,11 +4,14 @@ ghost use Rattle.lent.specs.Both.{Acts, Clashes, Drives, Runs, Sees, Slo
 ghost use Rattle.lent.specs.Both.{Works, done, resetLent};
 use crate::answer::Outcome;
 use crate::answer::answer_to;
-use crate::buffers::Span;
+use crate::buffers::count_of;
+use crate::buffers::is_clear;
+use crate::buffers::no_bytes;
 use crate::buffers::rbf_after;
 use crate::buffers::tbf_after;
 use crate::buffers::tbf_front;
 use crate::plain::plain;
+use circles::Span;
 use line::numbers::DRIVE_LOW;
 use line::numbers::KIND_SLOT;
 use line::numbers::RBF_BYTES;
@@ -52,8 +55,8 @@ impl Lent {
         ensures { λ r. ⌜ r ≡ resetLent ⌝ }
     {
         let core = reset_core();
-        let tbf = Span::none();
-        let rbf = Span::none();
+        let tbf = no_bytes();
+        let rbf = no_bytes();
         Lent { core, tbf, rbf }
     }
 
@@ -62,7 +65,7 @@ impl Lent {
         ensures { λ r. ⌜ Drives self r ⌝ }
     {
         let rbf = self.rbf;
-        core_drive(self.core, rbf.is_empty(RBF_BYTES))
+        core_drive(self.core, is_clear(RBF_BYTES, rbf))
     }
 
     // What a slot rests on of the buffers.
@@ -72,9 +75,9 @@ impl Lent {
         let sent = self.tbf;
         let stored = self.rbf;
         Seen {
-            waiting: sent.len(TBF_BYTES),
+            waiting: count_of(TBF_BYTES, sent),
             front: tbf_front(tbf, sent),
-            clear: stored.is_empty(RBF_BYTES),
+            clear: is_clear(RBF_BYTES, stored),
         }
     }
 

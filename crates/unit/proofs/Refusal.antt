@@ -7,7 +7,7 @@ use Rattle.line.specs.Slot.{Class, slot, host, classOf}
 use Rattle.line.specs.declared.slot.Slot.{Slot}
 use Rattle.line.specs.declared.slot.Slot.the-variants.{Level, Start, Idle, Stray}
 use Rattle.lent.specs.Both.{buffersIn, leftBy}
-use Rattle.lent.specs.Buffers.{Buffers, slotIn, toldIn, wordAs, wordIn}
+use Rattle.circles.specs.Buffers.{Buffers, slotIn, toldIn, wordAs, wordIn}
 use Rattle.rules.proofs.Ruled.{given-is-none, refused-unchanged}
 use Rattle.rules.specs.Registers.{Told, wrote, restarted, gave, denied, registerOf, toldOf, valueOf}
 use Rattle.rules.specs.State.{State}

@@ -3,9 +3,10 @@ use Prim.Native.Nat.{ℕ}
 use mathlib.Core.List.{List}
 use Rattle.line.specs.Numbers.{rbfBytes, tbfBytes}
 use lib.ListN.{replicate}
+use Rattle.circles.specs.Buffers.{Buffers}
+use Rattle.circles.specs.Calls.{vacant}
+use Rattle.circles.specs.Circle.{buffer, circleOf}
 use Rattle.lent.specs.Both.{leftBy}
-use Rattle.lent.specs.Buffers.{vacant}
-use Rattle.lent.specs.Queue.{circleOf}
 use Rattle.lent.specs.declared.step.Lent.{Lent}
 use Rattle.rules.specs.State.{State, resetCore}
 use Rattle.unit.specs.declared.buffers.Rbf.{Rbf}
@@ -20,6 +21,9 @@ rbfOf r = circleOf rbfBytes (r .bytes) (r .span)
 
 abbrev pub stateOf : Unit → State
 stateOf u = record { core = u .core; tbf = tbfOf (u .tbf); rbf = rbfOf (u .rbf) }
+
+abbrev pub buffersOf : Unit → Buffers
+buffersOf u = record { tbf = buffer (u .tbf .bytes) (u .tbf .span); rbf = buffer (u .rbf .bytes) (u .rbf .span) }
 
 -- ---- whole
 

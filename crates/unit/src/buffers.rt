@@ -2,7 +2,7 @@
 ghost use mathlib.Core.Path.{_≡_};
 ghost use lib.ListN.{length};
 ghost use Rattle.line.specs.Numbers.{rbfBytes, tbfBytes};
-use lent::buffers::Span;
+use circles::Span;
 use line::numbers::RBF_BYTES;
 use line::numbers::TBF_BYTES;
 

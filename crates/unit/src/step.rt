@@ -1,14 +1,15 @@
 // A unit by value: a reset one, and one word.
 ghost use Prim.Native.Nat.{ℕ};
 ghost use mathlib.Core.Path.{_≡_};
-ghost use Rattle.unit.specs.Unit.{resetUnit, stateOf, unitBy};
+ghost use Rattle.circles.specs.Buffers.{NoneMoved};
+ghost use Rattle.unit.specs.Unit.{buffersOf, resetUnit, stateOf, unitBy};
 ghost use Rattle.rules.specs.Refusals.{Ruled};
 ghost use Rattle.rules.specs.State.{reset};
 ghost use Rattle.rules.specs.Step.{answerOf, stepOf};
 ghost use Rattle.rules.specs.declared.answer.Answer.the-variants.{Refused};
 use crate::buffers::Rbf;
 use crate::buffers::Tbf;
-use lent::buffers::Span;
+use circles::Span;
 use lent::step::Lent;
 use line::numbers::RBF_BYTES;
 use line::numbers::TBF_BYTES;
@@ -55,6 +56,7 @@ impl Unit {
         ensures { λ r. ⌜ stateOf (r .unit) ≡ stepOf (stateOf self) word ⌝ }
         ensures { λ r. ⌜ r .answer ≡ answerOf (stateOf self) word ⌝ }
         ensures refusals { λ r. ⌜ Ruled (stateOf self) word (stateOf (r .unit)) (r .answer) ⌝ }
+        ensures unmoved { λ r. ⌜ NoneMoved (buffersOf self) (buffersOf (r .unit)) ⌝ }
         ensures whole { λ r. ⌜ r .unit ≡ unitBy self word ⌝ }
         ensures unchanged { λ r. ⌜ ((n : ℕ) → r .answer ≡ Refused n → r .unit ≡ self) ⌝ }
     {

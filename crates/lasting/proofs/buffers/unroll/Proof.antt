@@ -3,7 +3,7 @@ use native.Mathlib.Omega.{arith}
 use mathlib.Core.Path.{ap}
 use Prim.Native.Nat.{_-_, _<_}
 use lib.ListN.{length}
-use Rattle.lent.specs.Queue.{items}
+use Rattle.circles.specs.Circle.{items}
 use Rattle.lasting.proofs.Parts.{Filling, none-put, one-put, all-put, items-next, items-none}
 use Rattle.lasting.proofs.buffers.unroll.Statement.{statement}
 use Rattle.lasting.proofs.buffers.unroll.Tie as tie

@@ -1,7 +1,7 @@
 use mathlib.Core.Path.{_∙_}
 use borrow.Author.Needs.{needs}
-use Rattle.lent.specs.Buffers.{storedBy}
-use Rattle.lent.proofs.Circle.{push-alike}
+use Rattle.circles.specs.Buffers.{storedBy}
+use Rattle.circles.proofs.Circle.{push-alike}
 use Rattle.lent.proofs.buffers.rbf_after.Statement.{statement}
 use Rattle.lent.proofs.buffers.rbf_after.Tie as tie
 

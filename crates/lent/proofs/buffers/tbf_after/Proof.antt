@@ -1,5 +1,5 @@
 use borrow.Author.Needs.{needs}
-use Rattle.lent.specs.Buffers.{sentBy}
+use Rattle.circles.specs.Buffers.{sentBy}
 use Rattle.lent.proofs.buffers.tbf_after.Statement.{statement}
 use Rattle.lent.proofs.buffers.tbf_after.Tie as tie
 
@@ -16,7 +16,7 @@ tbf-after-spec =
     (λ c. search needs)
     (λ c. search needs)
     (λ c. simp (c .enum-told .given .1))
-    (λ c. rw (c .before .enum-told2 .given .1) (c .popped .ensures))
-    (λ c. rw (c .before .enum-told3 .given .1) (c .none .ensures))
+    (λ c. rw (c .before .enum-told2 .given .1) (c .without-oldest .ensures))
+    (λ c. rw (c .before .enum-told3 .given .1) (c .no-bytes .ensures))
     (λ c. simp (c .enum-told4 .given .1))
     (λ c. simp (c .enum-told5 .given .1)))

@@ -1,8 +1,8 @@
 use borrow.Author.Needs.{needs}
 use native.Mathlib.Omega.{arith}
 use Rattle.line.specs.Numbers.{tbfBytes}
-use Rattle.lent.specs.Queue.{circleOf, items, startOf}
-use Rattle.lent.proofs.Circle.{circle-front, start-less}
+use Rattle.circles.specs.Circle.{circleOf, items, startOf}
+use Rattle.circles.proofs.Circle.{circle-front, start-less}
 use Rattle.lent.proofs.buffers.tbf_front.Statement.{statement}
 use Rattle.lent.proofs.buffers.tbf_front.Tie as tie
 

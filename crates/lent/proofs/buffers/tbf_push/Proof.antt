@@ -3,9 +3,10 @@ use borrow.Author.Tests.{le-ltb, lt-ltb}
 use mathlib.Core.Path.{sym}
 use native.Mathlib.Omega.{arith}
 use Rattle.line.specs.Numbers.{tbfBytes}
-use Rattle.lent.specs.Buffers.{pushed}
-use Rattle.lent.specs.Queue.{startOf}
-use Rattle.lent.proofs.Circle.{start-less, wrap-less}
+use Rattle.circles.specs.Calls.{pushed}
+use Rattle.circles.specs.Circle.{buffer}
+use Rattle.circles.proofs.Circle.{start-less}
+use Rattle.circles.proofs.Places.{place-within}
 use Rattle.rules.proofs.Calm.{pick-no, pick-yes}
 use Rattle.lent.proofs.buffers.tbf_push.Statement.{statement}
 use Rattle.lent.proofs.buffers.tbf_push.Tie as tie
@@ -21,10 +22,9 @@ behind-requires c κs =
 
 element-write-bytes : tie.Need-element-write-bytes
 element-write-bytes c =
-    let s = c .before .before .before .args .span in
+    let a = c .before .before .before .args in
     rw (c .behind .ensures, c .before .start .ensures)
-    (wrap-less tbfBytes (startOf tbfBytes (s .first)) (s .count) (start-less tbfBytes (s .first) (omega arith))
-    (c .before .before .if1 .left))
+    (place-within tbfBytes (buffer (a .bytes .now) (a .span)) (a .span .count) (c .before .before .if1 .left))
 
 returns-2 : tie.Need-returns-2
 unfolding pushed

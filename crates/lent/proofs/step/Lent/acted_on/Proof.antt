@@ -1,9 +1,9 @@
 use mathlib.Core.Path.{ap, _∙_}
 use lib.ListN.{length}
 use borrow.Author.Needs.{needs}
-use Rattle.lent.specs.Buffers.{Buffer}
+use Rattle.circles.specs.Circle.{Buffer}
 use Rattle.lent.proofs.Changed.{acted-state}
-use Rattle.lent.proofs.Circle.{stored-length}
+use Rattle.circles.proofs.Circle.{stored-length}
 use Rattle.lent.proofs.step.Lent.acted_on.Statement.{statement}
 use Rattle.lent.proofs.step.Lent.acted_on.Tie as tie
 

@@ -10,4 +10,4 @@ drive-spec =
     (tie.spec
     (λ c κs. search needs)
     (λ c κs. search needs)
-    (λ c t r. rw (← c .before .is-empty .ensures r) (c .core-drive .ensures)))
+    (λ c t r. rw (← c .before .is-clear .ensures r) (c .core-drive .ensures)))

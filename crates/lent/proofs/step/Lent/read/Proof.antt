@@ -17,7 +17,7 @@ read-spec =
     c .read-rbf .ensures t
     ∙ read-byte (loanIn (a .self) t (a .rbf .now)) (a .register) v
     (rw (
-      ← c .before .before .before .before .is-empty .ensures (a .rbf .now),
+      ← c .before .before .before .before .is-clear .ensures (a .rbf .now),
       ← c .before .before .before .read-refusal .ensures,
     ) (eq-eqb _ _ (c .before .before .if1 .taken)))
     (eq-eqb _ _ (c .before .if2 .taken)))
@@ -29,12 +29,12 @@ read-spec =
     rw (
       c .done .ensures,
       c .before .read-value .ensures,
-      c .before .before .len2 .ensures (a .rbf .now),
-      c .before .before .before .len .ensures t,
+      c .before .before .count-of2 .ensures (a .rbf .now),
+      c .before .before .before .count-of .ensures t,
     )
     (read-other (loanIn (a .self) t (a .rbf .now)) (a .register) v
     (rw (
-      ← c .before .before .before .before .before .before .before .is-empty .ensures (a .rbf .now),
+      ← c .before .before .before .before .before .before .before .is-clear .ensures (a .rbf .now),
       ← c .before .before .before .before .before .before .read-refusal .ensures,
     ) (eq-eqb _ _
     (c .before .before .before .before .before .if1 .taken)))
@@ -44,8 +44,8 @@ read-spec =
     rw (
       c .done2 .ensures,
       c .before .before .read-refusal .ensures,
-      c .before .before .before .is-empty .ensures (a .rbf .now),
+      c .before .before .before .is-clear .ensures (a .rbf .now),
     )
     (read-refused (loanIn (a .self) t (a .rbf .now)) (a .register) v
-    (rw (← c .before .before .before .is-empty .ensures (a .rbf .now), ← c .before .before .read-refusal .ensures)
+    (rw (← c .before .before .before .is-clear .ensures (a .rbf .now), ← c .before .before .read-refusal .ensures)
     (ne-eqb _ _ (c .before .if1 .left))))))

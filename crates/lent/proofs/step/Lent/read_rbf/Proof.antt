@@ -11,5 +11,5 @@ read-rbf-spec =
     (λ c κs. search needs)
     (λ c κs. search needs)
     (λ c t. let a = c .before .before .before .before .args in
-    rw (c .done .ensures, c .before .popped .ensures, c .before .before .rbf-front .ensures)
+    rw (c .done .ensures, c .before .without-oldest .ensures, c .before .before .rbf-front .ensures)
     (drawn-state (a .self) t (a .rbf .now) _)))

@@ -10,4 +10,4 @@ reset-spec =
     (λ c κs. search needs)
     (λ c κs. search needs)
     (λ c κs. search needs)
-    (λ c. rw (c .before .before .reset-core .ensures, c .before .none .ensures, c .none2 .ensures) refl))
+    (λ c. rw (c .before .before .reset-core .ensures, c .before .no-bytes .ensures, c .no-bytes2 .ensures) refl))

@@ -11,8 +11,8 @@ seen-spec =
     (λ c κs. search needs)
     (λ c κs. search needs)
     (λ c r. rw (
-      ← c .is-empty .ensures r,
+      ← c .is-clear .ensures r,
       ← c .before .tbf-front .ensures,
-      ← c .before .before .len .ensures
+      ← c .before .before .count-of .ensures
           (c .before .before .before .before .before .args .tbf .now),
     ) refl))

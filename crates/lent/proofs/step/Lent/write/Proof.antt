@@ -18,7 +18,7 @@ write-spec =
       λ r full. c .write-done .ensures .1 r full
           ∙ write-accepted (loanIn (a .self) (a .tbf .now) r) (a .register) (a .v)
           (rw (
-            ← c .before .before .before .before .len .ensures (a .tbf .now),
+            ← c .before .before .before .before .count-of .ensures (a .tbf .now),
             ← c .before .before .before .write-refusal .ensures,
           ) (eq-eqb _ _ (c .before .before .if1 .taken))),
     ))
@@ -28,11 +28,11 @@ write-spec =
       λ r full. rw (
         c .done .ensures,
         c .before .before .write-refusal .ensures,
-        c .before .before .before .len .ensures (a .tbf .now),
+        c .before .before .before .count-of .ensures (a .tbf .now),
       )
           (write-refused (loanIn (a .self) (a .tbf .now) r) (a .register) (a .v)
           (rw (
-            ← c .before .before .before .len .ensures (a .tbf .now),
+            ← c .before .before .before .count-of .ensures (a .tbf .now),
             ← c .before .before .write-refusal .ensures,
           ) (ne-eqb _ _ (c .before .if1 .left)))),
     )))

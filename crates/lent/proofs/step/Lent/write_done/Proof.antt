@@ -3,9 +3,9 @@ use mathlib.Core.Path.{refl, ap, _∙_}
 use Rattle.lent.proofs.Joins.{done-other, done-reset, done-tbf}
 use lib.ListN.{length}
 use Rattle.lent.specs.Both.{loanIn, writtenIn}
-use Rattle.lent.specs.Buffers.{Buffer}
+use Rattle.circles.specs.Circle.{Buffer}
 use Rattle.lent.proofs.Changed.{filled-state, reset-state}
-use Rattle.lent.proofs.Circle.{push-length}
+use Rattle.circles.proofs.Circle.{push-length}
 use borrow.Author.Needs.{needs}
 use Rattle.lent.proofs.step.Lent.write_done.Statement.{statement}
 use Rattle.lent.proofs.step.Lent.write_done.Tie as tie

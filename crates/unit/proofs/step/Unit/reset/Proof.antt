@@ -1,5 +1,5 @@
 use borrow.Author.Needs.{needs}
-use Rattle.lent.specs.Queue.{circleOf, items}
+use Rattle.circles.specs.Circle.{circleOf, items}
 use Rattle.unit.proofs.step.Unit.reset.Statement.{statement}
 use Rattle.unit.proofs.step.Unit.reset.Tie as tie
 

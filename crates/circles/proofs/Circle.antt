@@ -11,9 +11,10 @@ use lib.ListN.{length, getD, set, drop, length-set}
 use lib.Seq.{getD-set-same, getD-set-other}
 use Rattle.line.specs.Choice.{pick}
 use Rattle.line.specs.Numbers.{rbfBytes, tbfBytes}
-use Rattle.lent.specs.Buffers.{Buffer, listOf, popped, pushed, put, sentBy, storedBy}
-use Rattle.lent.specs.Queue.{wrap, startOf, heldOf, items, circleOf}
-use Rattle.lent.specs.declared.buffers.Span.{Span}
+use Rattle.circles.specs.Buffers.{sentBy, storedBy}
+use Rattle.circles.specs.Calls.{popped, pushed, put}
+use Rattle.circles.specs.Circle.{Buffer, circleOf, heldOf, items, listOf, startOf, wrap}
+use Rattle.circles.specs.declared.Span.{Span}
 use Rattle.rules.specs.State.{pushOf, rbfAfter, tbfAfter}
 use Rattle.rules.specs.declared.state.Act.{Act}
 use Rattle.rules.specs.declared.state.Act.the-variants.{Nothing, Take, Empty, Header, Byte}
@@ -35,16 +36,22 @@ wrap-within n i h = ⊎-elim (λ w. w .1) (λ w. omega arith) (picked i n i (i -
 wrap-past : (n i : ℕ) → n ≤ i → wrap n i ≡ i - n
 wrap-past n i h = ⊎-elim (λ w. omega arith) (λ w. w .1) (picked i n i (i - n))
 
-pub wrap-less : (n f k : ℕ) → f < n → k < n → wrap n (f + k) < n
+pub wrap-less : (n f k : ℕ) → f < n → k ≤ n → wrap n (f + k) < n
 wrap-less n f k hf hk = ⊎-elim (λ w. omega arith) (λ w. omega arith) (picked (f + k) n (f + k) (f + k - n))
 
--- a place and one behind it by k + 1 differ
-wrap-apart : (n f k : ℕ) → f < n → suc k < n → f ≡ wrap n (f + suc k) → ⊥
-wrap-apart n f k hf hk e =
-    ⊎-elim (λ w. omega arith) (λ w. omega arith) (picked (f + suc k) n (f + suc k) (f + suc k - n))
+pub wrap-none : (n f : ℕ) → f < n → wrap n (f + 0) ≡ f
+wrap-none n f h = wrap-within n (f + 0) (omega arith) ∙ omega arith
+
+-- places that lie behind one by different numbers differ
+pub wrap-apart : (n f j k : ℕ) → f < n → j < k → k < n → wrap n (f + j) ≡ wrap n (f + k) → ⊥
+wrap-apart n f j k hf hj hk e =
+    ⊎-elim
+    (λ w. ⊎-elim (λ v. omega arith) (λ v. omega arith) (picked (f + k) n (f + k) (f + k - n)))
+    (λ w. ⊎-elim (λ v. omega arith) (λ v. omega arith) (picked (f + k) n (f + k) (f + k - n)))
+    (picked (f + j) n (f + j) (f + j - n))
 
 -- behind by k + 1 is behind the next place by k
-wrap-next : (n f k : ℕ) → f < n → suc k < n → wrap n (f + suc k) ≡ wrap n (wrap n (f + 1) + k)
+pub wrap-next : (n f k : ℕ) → f < n → suc k < n → wrap n (f + suc k) ≡ wrap n (wrap n (f + 1) + k)
 wrap-next n f k hf hk =
     ⊎-elim
     (λ w.
@@ -59,16 +66,16 @@ wrap-next n f k hf hk =
 pub start-less : (n f : ℕ) → 0 < n → startOf n f < n
 start-less n f h = ⊎-elim (λ w. omega arith) (λ w. omega arith) (picked f n f 0)
 
-start-same : (n f : ℕ) → f < n → startOf n f ≡ f
+pub start-same : (n f : ℕ) → f < n → startOf n f ≡ f
 start-same n f h = ⊎-elim (λ w. w .1) (λ w. omega arith) (picked f n f 0)
 
-held-same : (n k : ℕ) → k ≤ n → heldOf n k ≡ k
+pub held-same : (n k : ℕ) → k ≤ n → heldOf n k ≡ k
 held-same n k h = ⊎-elim (λ w. w .1) (λ w. omega arith) (picked k n k n)
 
 held-full : (n k : ℕ) → n ≤ k → heldOf n k ≡ n
 held-full n k h = ⊎-elim (λ w. omega arith) (λ w. w .1) (picked k n k n)
 
-held-least : (n k : ℕ) → heldOf n k ≤ n
+pub held-least : (n k : ℕ) → heldOf n k ≤ n
 held-least n k = ⊎-elim (λ w. omega arith) (λ w. omega arith) (picked k n k n)
 
 held-some : (n k : ℕ) → 0 < n → 0 < k → 0 < heldOf n k
@@ -86,10 +93,10 @@ items-more : (n : ℕ) (bytes : List ℕ) (x : ℕ) → length bytes ≡ n → (
     → items n (set bytes (wrap n (f + k)) x) f (suc k) ≡ items n bytes f k ++ x ∷ []
 unfolding items
 items-more n bytes x l zero f hf hk =
-    let e : wrap n (f + 0) ≡ f = wrap-within n (f + 0) (omega arith) ∙ omega arith in
-    rw e (ap (λ (v : ℕ). v ∷ []) (getD-set-same bytes f x 0 (omega arith)))
+    rw (wrap-none n f hf) (ap (λ (v : ℕ). v ∷ []) (getD-set-same bytes f x 0 (omega arith)))
 items-more n bytes x l (suc k) f hf hk =
-    ap₂ _∷_ (getD-set-other bytes (wrap n (f + suc k)) f x 0 (wrap-apart n f k hf hk))
+    let apart : f ≡ wrap n (f + suc k) → ⊥ = λ e. wrap-apart n f 0 (suc k) hf (omega arith) hk (wrap-none n f hf ∙ e) in
+    ap₂ _∷_ (getD-set-other bytes (wrap n (f + suc k)) f x 0 apart)
     (rw (wrap-next n f k hf hk)
     (items-more n bytes x l k (wrap n (f + 1)) (wrap-less n f 1 hf (omega arith)) (omega arith)))
 
@@ -119,15 +126,15 @@ pub circle-front : (n : ℕ) (bytes : List ℕ) (f k : ℕ) → 0 < n → 0 < k
     → getD bytes f 0 ≡ getD (items n bytes f (heldOf n k)) 0 0
 circle-front n bytes f k h j = items-first n bytes f (heldOf n k) (held-some n k h j)
 
-circle-pop : (n : ℕ) (bytes : List ℕ) (f k m : ℕ) → 1 < n → m ≡ heldOf n k → 0 < m
+circle-pop : (n : ℕ) (bytes : List ℕ) (f k m : ℕ) → m ≡ heldOf n k → 0 < m
     → items n bytes (startOf n (wrap n (startOf n f + 1))) (heldOf n (m - 1))
     ≡ drop 1 (items n bytes (startOf n f) (heldOf n k))
-circle-pop n bytes f k m h e j =
-    let s : startOf n f < n = start-less n f (omega arith) in
+circle-pop n bytes f k m e j =
     let b : m ≤ n = omega (arith, held-least n k) in
+    let s : startOf n f < n = start-less n f (omega arith) in
     rw (
       held-same n (m - 1) (omega arith),
-      start-same n (wrap n (startOf n f + 1)) (wrap-less n (startOf n f) 1 s h),
+      start-same n (wrap n (startOf n f + 1)) (wrap-less n (startOf n f) 1 s (omega arith)),
       ← e,
     )
     (items-rest n bytes (startOf n f) m j)
@@ -159,10 +166,10 @@ push-length n b x = by (ltb (b .span .count) n)
 pub push-alike : (n x : ℕ) {a b : Buffer} → a ≡ b → pushed n a x ≡ pushed n b x
 push-alike n x e = ap (λ (c : Buffer). pushed n c x) e
 
-pub pop-list : (n : ℕ) → 1 < n → (bytes : List ℕ) (span : Span)
+pub pop-list : (n : ℕ) (bytes : List ℕ) (span : Span)
     → circleOf n bytes (popped n span) ≡ drop 1 (circleOf n bytes span)
 unfolding circleOf popped
-pop-list n h bytes span = by (eqb (heldOf n (span .count)) 0) refl
+pop-list n bytes span = by (eqb (heldOf n (span .count)) 0) refl
   where
     next : Span
     next = record { first = wrap n (startOf n (span .first) + 1); count = heldOf n (span .count) - 1 }
@@ -171,7 +178,7 @@ pop-list n h bytes span = by (eqb (heldOf n (span .count)) 0) refl
         → circleOf n bytes (pick t span next) ≡ drop 1 (circleOf n bytes span)
     by true e = none-left _ (items-length n bytes _ _ ∙ eqb-true _ 0 e)
     by false e =
-        circle-pop n bytes (span .first) (span .count) (heldOf n (span .count)) h refl
+        circle-pop n bytes (span .first) (span .count) (heldOf n (span .count)) refl
         (omega (arith, eqb-false (heldOf n (span .count)) 0 e))
 
 -- ---- what a slot does to them
@@ -180,7 +187,7 @@ pub sent-list : (act : Act) (bytes : List ℕ) (span : Span)
     → circleOf tbfBytes bytes (sentBy act span) ≡ tbfAfter act (circleOf tbfBytes bytes span)
 unfolding sentBy tbfAfter circleOf items
 sent-list Nothing bytes span = refl
-sent-list Take bytes span = pop-list tbfBytes (omega arith) bytes span
+sent-list Take bytes span = pop-list tbfBytes bytes span
 sent-list Empty bytes span = refl
 sent-list (Header a b c) bytes span = refl
 sent-list (Byte b) bytes span = refl

@@ -1,9 +1,7 @@
--- A lent array with its span, and what a word does to the two of them: which places are written, and with what. A byte
--- that comes in is written to one place, behind the others; where one leaves, or all do, none is written.
-use Prim.Native.Nat.{ℕ, _+_, _-_}
-use mathlib.Core.List.{List}
-use lib.Dec.{eqb, ltb}
-use lib.ListN.{set}
+-- TBF and RBF, each an array with its span, and what a word does to them: which places are written, and with what. A
+-- byte that comes in is written to one place, behind the others; where one leaves, or all do, none is written.
+use Prim.Native.Nat.{ℕ}
+use lib.Dec.{eqb}
 use Rattle.line.specs.Choice.{pick}
 use Rattle.line.specs.Numbers.{rbfBytes, regRbf, regTbf, tbfBytes}
 use Rattle.line.specs.Slot.{Class, slot, host, classOf}
@@ -15,47 +13,20 @@ use Rattle.rules.specs.State.{State, seenOf}
 use Rattle.rules.specs.Step.{clashes}
 use Rattle.rules.specs.declared.state.Act.{Act}
 use Rattle.rules.specs.declared.state.Act.the-variants.{Nothing, Take, Empty, Header, Byte}
-use Rattle.lent.specs.declared.buffers.Span.{Span}
-use Rattle.lent.specs.Queue.{circleOf, heldOf, startOf, wrap}
-
-pub record Buffer : Type 0 where
-  pub bytes : List ℕ
-  pub span : Span
-
-abbrev pub buffer : List ℕ → Span → Buffer
-buffer bytes span = record { bytes = bytes; span = span }
-
--- the bytes held, oldest first
-abbrev pub listOf : ℕ → Buffer → List ℕ
-listOf room b = circleOf room (b .bytes) (b .span)
-
--- a byte behind the others
-abbrev pub put : ℕ → Buffer → ℕ → Buffer
-put room b byte =
-    record {
-      bytes = set (b .bytes) (wrap room (startOf room (b .span .first) + b .span .count)) byte;
-      span = record { first = b .span .first; count = b .span .count + 1 };
-    }
-
--- .. where there is room
-unfoldable pub pushed : ℕ → Buffer → ℕ → Buffer
-pushed room b byte = pick (ltb (b .span .count) room) (put room b byte) b
-
--- without the oldest byte, where there is one
-unfoldable pub popped : ℕ → Span → Span
-popped room span =
-    pick (eqb (heldOf room (span .count)) 0) span
-    (record { first = wrap room (startOf room (span .first) + 1); count = heldOf room (span .count) - 1 })
-
--- with none
-abbrev pub vacant : Span
-vacant = record { first = 0; count = 0 }
+use Rattle.circles.specs.Calls.{popped, pushed, vacant}
+use Rattle.circles.specs.Circle.{Buffer, Unmoved, buffer}
+use Rattle.circles.specs.declared.Span.{Span}
 
 -- ---- TBF and RBF
 
 pub record Buffers : Type 0 where
   pub tbf : Buffer
   pub rbf : Buffer
+
+-- no byte of either has been moved
+pub record NoneMoved (b after : Buffers) : Type 0 where
+  pub tbf : Unmoved tbfBytes (b .tbf) (after .tbf)
+  pub rbf : Unmoved rbfBytes (b .rbf) (after .rbf)
 
 -- a byte is written to TBF
 abbrev pub filled : Buffers → ℕ → Buffers

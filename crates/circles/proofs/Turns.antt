@@ -1,0 +1,45 @@
+-- A circle is the queue that it stands for, after each of any calls.
+use Prim.Native.Nat.{ℕ}
+use native.Mathlib.Omega.{arith}
+use mathlib.Core.List.{List, [], _∷_, map}
+use mathlib.Core.Path.{_≡_, refl, ap, _∙_}
+use lib.ListN.{length}
+use Rattle.circles.specs.Calls.{AsQueue, Call, push, take, empty, afterEach, queued, turned, vacant}
+use Rattle.circles.specs.Circle.{Buffer, buffer, circleOf, items, listOf}
+use Rattle.circles.proofs.Circle.{held-same, pop-list, push-length, push-list}
+
+turned-length : (room : ℕ) (b : Buffer) (call : Call) → length (turned room b call .bytes) ≡ length (b .bytes)
+unfolding turned
+turned-length room b (push byte) = push-length room b byte
+turned-length room b take = refl
+turned-length room b empty = refl
+
+-- one call
+one-call : (room : ℕ) (b : Buffer) (call : Call) → length (b .bytes) ≡ room
+    → listOf room (turned room b call) ≡ queued room (listOf room b) call
+unfolding turned queued circleOf items
+one-call room b (push byte) full = push-list room b byte full
+one-call room b take full = pop-list room (b .bytes) (b .span)
+one-call room b empty full = ap (items room (b .bytes) _) (held-same room 0 (omega arith))
+
+each-call : (room : ℕ) (calls : List Call) (b : Buffer) → length (b .bytes) ≡ room
+    → map (listOf room) (afterEach (turned room) b calls) ≡ afterEach (queued room) (listOf room b) calls
+unfolding afterEach
+each-call room [] b full = refl
+each-call room (call ∷ calls) b full =
+    rw (← one-call room b call full)
+    (ap (λ (rest : List (List ℕ)). listOf room (turned room b call) ∷ rest)
+    (each-call room calls (turned room b call) (turned-length room b call ∙ full)))
+
+-- any calls, from any span of any array
+pub any-calls : (b : Buffer) (calls : List Call)
+    → AsQueue (length (b .bytes)) b (listOf (length (b .bytes)) b) calls
+any-calls b calls = record { after-each = each-call (length (b .bytes)) calls b refl }
+
+-- .. and from an empty one
+pub from-empty : (bytes : List ℕ) (calls : List Call) → AsQueue (length bytes) (buffer bytes vacant) [] calls
+unfolding circleOf items
+from-empty bytes calls =
+    let none : listOf (length bytes) (buffer bytes vacant) ≡ [] = ap (items (length bytes) bytes _) (held-same
+    (length bytes) 0 (omega arith)) in
+    rw (← none) (any-calls (buffer bytes vacant) calls)
