@@ -12,7 +12,7 @@ use lib.Seq.{getD-set-same, getD-set-other}
 use Rattle.line.specs.Choice.{pick}
 use Rattle.line.specs.Numbers.{rbfBytes, tbfBytes}
 use Rattle.circles.specs.Buffers.{sentBy, storedBy}
-use Rattle.circles.specs.Calls.{popped, pushed, put}
+use Rattle.circles.specs.Calls.{fewer, popped, pushed, put, turns}
 use Rattle.circles.specs.Circle.{Buffer, circleOf, heldOf, items, listOf, startOf, wrap}
 use Rattle.circles.specs.declared.Span.{Span}
 use Rattle.rules.specs.State.{pushOf, rbfAfter, tbfAfter}
@@ -171,11 +171,8 @@ pub pop-list : (n : ℕ) (bytes : List ℕ) (span : Span)
 unfolding circleOf popped
 pop-list n bytes span = by (eqb (heldOf n (span .count)) 0) refl
   where
-    next : Span
-    next = record { first = wrap n (startOf n (span .first) + 1); count = heldOf n (span .count) - 1 }
-
     by : (t : Bool) → eqb (heldOf n (span .count)) 0 ≡ t
-        → circleOf n bytes (pick t span next) ≡ drop 1 (circleOf n bytes span)
+        → circleOf n bytes (pick t span (fewer n span)) ≡ drop 1 (circleOf n bytes span)
     by true e = none-left _ (items-length n bytes _ _ ∙ eqb-true _ 0 e)
     by false e =
         circle-pop n bytes (span .first) (span .count) (heldOf n (span .count)) refl
@@ -183,16 +180,16 @@ pop-list n bytes span = by (eqb (heldOf n (span .count)) 0) refl
 
 -- ---- what a slot does to them
 
-pub sent-list : (act : Act) (bytes : List ℕ) (span : Span)
-    → circleOf tbfBytes bytes (sentBy act span) ≡ tbfAfter act (circleOf tbfBytes bytes span)
+pub sent-list : (act : Act) (b : Buffer)
+    → listOf tbfBytes (turns tbfBytes b (sentBy act)) ≡ tbfAfter act (listOf tbfBytes b)
 unfolding sentBy tbfAfter circleOf items
-sent-list Nothing bytes span = refl
-sent-list Take bytes span = pop-list tbfBytes bytes span
-sent-list Empty bytes span = refl
-sent-list (Header a b c) bytes span = refl
-sent-list (Byte b) bytes span = refl
+sent-list Nothing b = refl
+sent-list Take b = pop-list tbfBytes (b .bytes) (b .span)
+sent-list Empty b = refl
+sent-list (Header x y z) b = refl
+sent-list (Byte x) b = refl
 
-pub stored-length : (act : Act) (b : Buffer) → length (storedBy act b .bytes) ≡ length (b .bytes)
+pub stored-length : (act : Act) (b : Buffer) → length (turns rbfBytes b (storedBy act) .bytes) ≡ length (b .bytes)
 unfolding storedBy
 stored-length Nothing b = refl
 stored-length Take b = refl
@@ -201,7 +198,7 @@ stored-length (Header x y z) b = push-length _ _ z ∙ push-length _ _ y ∙ pus
 stored-length (Byte x) b = push-length _ b x
 
 pub stored-list : (act : Act) (b : Buffer) → length (b .bytes) ≡ rbfBytes
-    → listOf rbfBytes (storedBy act b) ≡ rbfAfter act (listOf rbfBytes b)
+    → listOf rbfBytes (turns rbfBytes b (storedBy act)) ≡ rbfAfter act (listOf rbfBytes b)
 unfolding storedBy rbfAfter
 stored-list Nothing b full = refl
 stored-list Take b full = refl

@@ -1,5 +1,5 @@
--- The laws of a circle.
+-- The laws of a circle: as a list, by its places, after any calls, and after a word.
 pub mod Circle
-pub mod Turns
 pub mod Places
+pub mod Turns
 pub mod Words

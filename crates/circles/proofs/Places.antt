@@ -8,7 +8,7 @@ use lib.Dec.{eqb, ltb}
 use lib.ListN.{getD, length-set}
 use lib.Seq.{ext-getD, getD-set-other}
 use Rattle.rules.proofs.Calm.{pick-ind}
-use Rattle.circles.specs.Calls.{Call, push, take, empty, popped, pushed, put, turned}
+use Rattle.circles.specs.Calls.{Call, push, take, empty, fewer, popped, pushed, put, turned}
 use Rattle.circles.specs.Circle.{Buffer, Unmoved, buffer, circleOf, goneFrom, heldIn, heldOf, items, listOf}
 use Rattle.circles.specs.Circle.{placeIn, startOf, wrap}
 use Rattle.circles.specs.declared.Span.{Span}
@@ -65,23 +65,20 @@ put-unmoved room b x h =
           (new (b .span .count) (omega arith) (omega arith));
     }
 
-pub push-unmoved : (room : ℕ) (b : Buffer) (x : ℕ) → Unmoved room b (pushed room b x)
+push-unmoved : (room : ℕ) (b : Buffer) (x : ℕ) → Unmoved room b (pushed room b x)
 unfolding pushed
 push-unmoved room b x =
     pick-ind (Unmoved room b) (ltb (b .span .count) room) _ _
     (λ e. put-unmoved room b x (ltb-true _ room e)) (λ e. same-unmoved room b)
 
-abbrev oneFewer : ℕ → Buffer → Span
-oneFewer room b = record { first = wrap room (startOf room (b .span .first) + 1); count = heldIn room b - 1 }
-
-take-unmoved : (room : ℕ) (b : Buffer) → 0 < heldIn room b → Unmoved room b (buffer (b .bytes) (oneFewer room b))
+take-unmoved : (room : ℕ) (b : Buffer) → 0 < heldIn room b → Unmoved room b (buffer (b .bytes) (fewer room (b .span)))
 take-unmoved room b some =
     let most = held-least room (b .span .count) in
     let start = start-less room (b .span .first) (omega arith) in
     let after : heldOf room (heldIn room b - 1) ≡ heldIn room b - 1 = held-same room _ (omega arith) in
     record {
       stayed =
-          λ k j. let next : suc k ≡ goneFrom room b (buffer (b .bytes) (oneFewer room b)) + k = omega arith in
+          λ k j. let next : suc k ≡ goneFrom room b (buffer (b .bytes) (fewer room (b .span))) + k = omega arith in
           rw (start-same room _ (wrap-less room _ 1 start (omega arith)))
           (sym (wrap-next room _ k start (omega arith)) ∙ ap (placeIn room b) next);
       as-long = refl;
@@ -89,7 +86,7 @@ take-unmoved room b some =
     }
 
 pub call-unmoved : (room : ℕ) (b : Buffer) (call : Call) → Unmoved room b (turned room b call)
-unfolding turned pushed popped
+unfolding pushed popped
 call-unmoved room b (push byte) = push-unmoved room b byte
 call-unmoved room b take =
     pick-ind (λ (span : Span). Unmoved room b (buffer (b .bytes) span)) (eqb (heldIn room b) 0) _ _
@@ -161,3 +158,10 @@ pub one-written : {room : ℕ} {b after : Buffer} → Unmoved room b after → h
 one-written {room} {b} {after} unmoved one place other =
     unmoved .unwritten place
     (λ k h i e. other (e ∙ ap (placeIn room after) (let same : k ≡ heldIn room b = omega arith in same)))
+
+-- where one has left, each of the others lies where it lay
+pub one-left : {room : ℕ} {b after : Buffer} → Unmoved room b after → heldIn room b ≡ heldIn room after + 1
+    → (k : ℕ) → k < heldIn room after → placeIn room after k ≡ placeIn room b (k + 1)
+one-left {room} {b} {after} unmoved one k h =
+    unmoved .stayed k (omega arith)
+    ∙ ap (placeIn room b) (let e : goneFrom room b after + k ≡ k + 1 = omega arith in e)

@@ -6,18 +6,13 @@ use mathlib.Core.Path.{_≡_, refl, ap, _∙_}
 use lib.ListN.{length}
 use Rattle.circles.specs.Calls.{AsQueue, Call, push, take, empty, afterEach, queued, turned, vacant}
 use Rattle.circles.specs.Circle.{Buffer, buffer, circleOf, items, listOf}
-use Rattle.circles.proofs.Circle.{held-same, pop-list, push-length, push-list}
-
-turned-length : (room : ℕ) (b : Buffer) (call : Call) → length (turned room b call .bytes) ≡ length (b .bytes)
-unfolding turned
-turned-length room b (push byte) = push-length room b byte
-turned-length room b take = refl
-turned-length room b empty = refl
+use Rattle.circles.proofs.Circle.{held-same, pop-list, push-list}
+use Rattle.circles.proofs.Places.{call-unmoved}
 
 -- one call
 one-call : (room : ℕ) (b : Buffer) (call : Call) → length (b .bytes) ≡ room
     → listOf room (turned room b call) ≡ queued room (listOf room b) call
-unfolding turned queued circleOf items
+unfolding queued circleOf items
 one-call room b (push byte) full = push-list room b byte full
 one-call room b take full = pop-list room (b .bytes) (b .span)
 one-call room b empty full = ap (items room (b .bytes) _) (held-same room 0 (omega arith))
@@ -29,7 +24,7 @@ each-call room [] b full = refl
 each-call room (call ∷ calls) b full =
     rw (← one-call room b call full)
     (ap (λ (rest : List (List ℕ)). listOf room (turned room b call) ∷ rest)
-    (each-call room calls (turned room b call) (turned-length room b call ∙ full)))
+    (each-call room calls (turned room b call) (call-unmoved room b call .as-long ∙ full)))
 
 -- any calls, from any span of any array
 pub any-calls : (b : Buffer) (calls : List Call)

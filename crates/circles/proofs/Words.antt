@@ -1,5 +1,6 @@
--- No word moves a byte of TBF or RBF.
+-- What a word does to TBF and RBF moves no byte of them.
 use Prim.Native.Nat.{ℕ}
+use mathlib.Core.Path.{refl}
 use lib.Dec.{eqb}
 use Rattle.line.specs.Numbers.{rbfBytes, regRbf, regTbf, tbfBytes}
 use Rattle.line.specs.Slot.{Class, slot, host, classOf}
@@ -11,62 +12,75 @@ use Rattle.rules.specs.Step.{clashes}
 use Rattle.rules.specs.declared.state.Act.{Act}
 use Rattle.rules.specs.declared.state.Act.the-variants.{Nothing, Take, Empty, Header, Byte}
 use Rattle.rules.proofs.Calm.{pick-ind}
-use Rattle.circles.specs.Buffers.{Buffers, NoneMoved, actedIn, drawn, filled, sentBy, slotIn, slotTaken}
-use Rattle.circles.specs.Buffers.{storedBy, toldIn, wordAs, wordIn}
-use Rattle.circles.specs.Calls.{empty, take, turned}
-use Rattle.circles.specs.Circle.{Buffer, Unmoved, buffer}
-use Rattle.circles.proofs.Places.{call-unmoved, push-unmoved, same-unmoved, three-unmoved}
+use Rattle.circles.specs.Buffers.{Buffers, Calls, InCircles, acting, called, callsAs, drawn, filled, sentBy}
+use Rattle.circles.specs.Buffers.{slotCalls, slotTaken, storedBy, toldCalls, uncalled, wordCalls}
+use Rattle.circles.specs.Calls.{push, take, empty, turns}
+use Rattle.circles.specs.Circle.{Buffer, Unmoved}
+use Rattle.circles.proofs.Places.{call-unmoved, same-unmoved, three-unmoved}
 
-sent-unmoved : (act : Act) (b : Buffer) → Unmoved tbfBytes b (buffer (b .bytes) (sentBy act (b .span)))
-unfolding sentBy turned
+-- ---- slots
+
+sent-unmoved : (act : Act) (b : Buffer) → Unmoved tbfBytes b (turns tbfBytes b (sentBy act))
+unfolding sentBy
 sent-unmoved Nothing b = same-unmoved tbfBytes b
 sent-unmoved Take b = call-unmoved tbfBytes b take
 sent-unmoved Empty b = call-unmoved tbfBytes b empty
 sent-unmoved (Header x y z) b = same-unmoved tbfBytes b
 sent-unmoved (Byte x) b = same-unmoved tbfBytes b
 
-stored-unmoved : (act : Act) (b : Buffer) → Unmoved rbfBytes b (storedBy act b)
+stored-unmoved : (act : Act) (b : Buffer) → Unmoved rbfBytes b (turns rbfBytes b (storedBy act))
 unfolding storedBy
 stored-unmoved Nothing b = same-unmoved rbfBytes b
 stored-unmoved Take b = same-unmoved rbfBytes b
 stored-unmoved Empty b = same-unmoved rbfBytes b
 stored-unmoved (Header x y z) b = three-unmoved rbfBytes b x y z
-stored-unmoved (Byte x) b = push-unmoved rbfBytes b x
+stored-unmoved (Byte x) b = call-unmoved rbfBytes b (push x)
 
-none-moved : (b : Buffers) → NoneMoved b b
-none-moved b = record { tbf = same-unmoved tbfBytes (b .tbf); rbf = same-unmoved rbfBytes (b .rbf) }
+-- ---- words
 
-acted-unmoved : (act : Act) (b : Buffers) → NoneMoved b (actedIn act b)
-acted-unmoved act b = record { tbf = sent-unmoved act (b .tbf); rbf = stored-unmoved act (b .rbf) }
+-- calls on TBF and on RBF that move no byte
+record Still (c : Calls) : Type 0 where
+  tbf : (b : Buffer) → Unmoved tbfBytes b (turns tbfBytes b (c .tbf))
+  rbf : (b : Buffer) → Unmoved rbfBytes b (turns rbfBytes b (c .rbf))
 
-slot-unmoved : (s : State) (c : Slot) (b : Buffers) → NoneMoved b (slotIn s c b)
-unfolding slotIn
-slot-unmoved s (Level bit) b =
-    pick-ind (NoneMoved b) (clashes s bit) b (slotTaken s (Level bit) b)
-    (λ e. none-moved b) (λ e. acted-unmoved _ b)
-slot-unmoved s Start b = acted-unmoved _ b
-slot-unmoved s Idle b = acted-unmoved _ b
-slot-unmoved s Stray b = none-moved b
+still : Still uncalled
+still = record { tbf = same-unmoved tbfBytes; rbf = same-unmoved rbfBytes }
 
-told-unmoved : (t : Told) (register v : ℕ) (b : Buffers) → NoneMoved b (toldIn t register v b)
-unfolding turned
-told-unmoved (wrote r tbf) register v b =
-    pick-ind (NoneMoved b) (eqb register regTbf) (filled b v) b
-    (λ e. record { tbf = push-unmoved tbfBytes (b .tbf) v; rbf = same-unmoved rbfBytes (b .rbf) })
-    (λ e. none-moved b)
-told-unmoved restarted register v b =
-    record { tbf = call-unmoved tbfBytes (b .tbf) empty; rbf = call-unmoved rbfBytes (b .rbf) empty }
-told-unmoved (gave rbf value) register v b =
-    pick-ind (NoneMoved b) (eqb register regRbf) (drawn b) b
-    (λ e. record { tbf = same-unmoved tbfBytes (b .tbf); rbf = call-unmoved rbfBytes (b .rbf) take })
-    (λ e. none-moved b)
-told-unmoved (denied n) register v b = none-moved b
+acting-still : (act : Act) → Still (acting act)
+acting-still act = record { tbf = sent-unmoved act; rbf = stored-unmoved act }
+
+slot-still : (s : State) (c : Slot) → Still (slotCalls s c)
+unfolding slotCalls
+slot-still s (Level bit) =
+    pick-ind Still (clashes s bit) uncalled (slotTaken s (Level bit)) (λ e. still) (λ e. acting-still _)
+slot-still s Start = acting-still _
+slot-still s Idle = acting-still _
+slot-still s Stray = still
+
+told-still : (t : Told) (register v : ℕ) → Still (toldCalls t register v)
+told-still (wrote r tbf) register v =
+    pick-ind Still (eqb register regTbf) (filled v) uncalled
+    (λ e. record { tbf = λ b. call-unmoved tbfBytes b (push v); rbf = same-unmoved rbfBytes }) (λ e. still)
+told-still restarted register v =
+    record { tbf = λ b. call-unmoved tbfBytes b empty; rbf = λ b. call-unmoved rbfBytes b empty }
+told-still (gave rbf value) register v =
+    pick-ind Still (eqb register regRbf) drawn uncalled
+    (λ e. record { tbf = same-unmoved tbfBytes; rbf = λ b. call-unmoved rbfBytes b take }) (λ e. still)
+told-still (denied n) register v = still
+
+word-still : (s : State) (w : ℕ) → Still (wordCalls s w)
+unfolding wordCalls
+word-still s w = by (classOf w)
+  where
+    by : (class : Class) → Still (callsAs class s w)
+    by (slot c) = slot-still s c
+    by host = told-still (toldOf (s .core .regs) (s .tbf) (s .rbf) w) (registerOf w) (valueOf w)
 
 -- any word, in every state, on any arrays with any spans
-pub word-unmoved : (s : State) (w : ℕ) (b : Buffers) → NoneMoved b (wordIn s w b)
-unfolding wordIn
-word-unmoved s w b = by (classOf w)
-  where
-    by : (class : Class) → NoneMoved b (wordAs class s w b)
-    by (slot c) = slot-unmoved s c b
-    by host = told-unmoved (toldOf (s .core .regs) (s .tbf) (s .rbf) w) (registerOf w) (valueOf w) b
+pub word-circles : (s : State) (w : ℕ) (b : Buffers) → InCircles b (called (wordCalls s w) b)
+word-circles s w b =
+    let calls = wordCalls s w in
+    record {
+      tbf = record { calls = calls .tbf; called = refl; unmoved = word-still s w .tbf (b .tbf) };
+      rbf = record { calls = calls .rbf; called = refl; unmoved = word-still s w .rbf (b .rbf) };
+    }

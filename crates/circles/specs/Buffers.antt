@@ -1,6 +1,6 @@
--- TBF and RBF, each an array with its span, and what a word does to them: which places are written, and with what. A
--- byte that comes in is written to one place, behind the others; where one leaves, or all do, none is written.
+-- What a word does to TBF and RBF, by the calls that it makes on each.
 use Prim.Native.Nat.{ℕ}
+use mathlib.Core.List.{List, [], _∷_}
 use lib.Dec.{eqb}
 use Rattle.line.specs.Choice.{pick}
 use Rattle.line.specs.Numbers.{rbfBytes, regRbf, regTbf, tbfBytes}
@@ -13,76 +13,85 @@ use Rattle.rules.specs.State.{State, seenOf}
 use Rattle.rules.specs.Step.{clashes}
 use Rattle.rules.specs.declared.state.Act.{Act}
 use Rattle.rules.specs.declared.state.Act.the-variants.{Nothing, Take, Empty, Header, Byte}
-use Rattle.circles.specs.Calls.{popped, pushed, vacant}
-use Rattle.circles.specs.Circle.{Buffer, Unmoved, buffer}
-use Rattle.circles.specs.declared.Span.{Span}
+use Rattle.circles.specs.Calls.{ByCalls, Call, push, take, empty, turns}
+use Rattle.circles.specs.Circle.{Buffer}
 
--- ---- TBF and RBF
+-- ---- the two buffers
 
 pub record Buffers : Type 0 where
   pub tbf : Buffer
   pub rbf : Buffer
 
--- no byte of either has been moved
-pub record NoneMoved (b after : Buffers) : Type 0 where
-  pub tbf : Unmoved tbfBytes (b .tbf) (after .tbf)
-  pub rbf : Unmoved rbfBytes (b .rbf) (after .rbf)
+-- calls on each
+pub record Calls : Type 0 where
+  pub tbf : List Call
+  pub rbf : List Call
+
+abbrev pub called : Calls → Buffers → Buffers
+called c b = record { tbf = turns tbfBytes (b .tbf) (c .tbf); rbf = turns rbfBytes (b .rbf) (c .rbf) }
+
+-- both have been changed by calls alone, and no byte of either has been moved
+pub record InCircles (b after : Buffers) : Type 0 where
+  pub tbf : ByCalls tbfBytes (b .tbf) (after .tbf)
+  pub rbf : ByCalls rbfBytes (b .rbf) (after .rbf)
+
+-- ---- the calls of a word
+
+abbrev pub uncalled : Calls
+uncalled = record { tbf = []; rbf = [] }
 
 -- a byte is written to TBF
-abbrev pub filled : Buffers → ℕ → Buffers
-filled b v = record { tbf = pushed tbfBytes (b .tbf) v; rbf = b .rbf }
+abbrev pub filled : ℕ → Calls
+filled v = record { tbf = push v ∷ []; rbf = [] }
 
 -- the oldest byte of RBF is read, and leaves it
-abbrev pub drawn : Buffers → Buffers
-drawn b = record { tbf = b .tbf; rbf = buffer (b .rbf .bytes) (popped rbfBytes (b .rbf .span)) }
+abbrev pub drawn : Calls
+drawn = record { tbf = []; rbf = take ∷ [] }
 
 -- a reset
-abbrev pub emptied : Buffers → Buffers
-emptied b = record { tbf = buffer (b .tbf .bytes) vacant; rbf = buffer (b .rbf .bytes) vacant }
+abbrev pub emptied : Calls
+emptied = record { tbf = empty ∷ []; rbf = empty ∷ [] }
 
--- ---- slots
+-- what a slot does to TBF
+unfoldable pub sentBy : Act → List Call
+sentBy Nothing = []
+sentBy Take = take ∷ []
+sentBy Empty = empty ∷ []
+sentBy (Header a b c) = []
+sentBy (Byte b) = []
 
-unfoldable pub sentBy : Act → Span → Span
-sentBy Nothing span = span
-sentBy Take span = popped tbfBytes span
-sentBy Empty span = vacant
-sentBy (Header a b c) span = span
-sentBy (Byte b) span = span
+-- .. to RBF
+unfoldable pub storedBy : Act → List Call
+storedBy Nothing = []
+storedBy Take = []
+storedBy Empty = []
+storedBy (Header a b c) = push a ∷ push b ∷ push c ∷ []
+storedBy (Byte b) = push b ∷ []
 
-unfoldable pub storedBy : Act → Buffer → Buffer
-storedBy Nothing rbf = rbf
-storedBy Take rbf = rbf
-storedBy Empty rbf = rbf
-storedBy (Header a b c) rbf = pushed rbfBytes (pushed rbfBytes (pushed rbfBytes rbf a) b) c
-storedBy (Byte b) rbf = pushed rbfBytes rbf b
+abbrev pub acting : Act → Calls
+acting act = record { tbf = sentBy act; rbf = storedBy act }
 
-abbrev pub actedIn : Act → Buffers → Buffers
-actedIn act b = record { tbf = buffer (b .tbf .bytes) (sentBy act (b .tbf .span)); rbf = storedBy act (b .rbf) }
-
-abbrev pub slotTaken : State → Slot → Buffers → Buffers
-slotTaken s c b = actedIn (onSlot (s .core) c (seenOf (s .tbf) (s .rbf)) .act) b
+abbrev pub slotTaken : State → Slot → Calls
+slotTaken s c = acting (onSlot (s .core) c (seenOf (s .tbf) (s .rbf)) .act)
 
 -- a refused slot does nothing
-unfoldable pub slotIn : State → Slot → Buffers → Buffers
-slotIn s (Level bit) b = pick (clashes s bit) b (slotTaken s (Level bit) b)
-slotIn s Start b = slotTaken s Start b
-slotIn s Idle b = slotTaken s Idle b
-slotIn s Stray b = b
+unfoldable pub slotCalls : State → Slot → Calls
+slotCalls s (Level bit) = pick (clashes s bit) uncalled (slotTaken s (Level bit))
+slotCalls s Start = slotTaken s Start
+slotCalls s Idle = slotTaken s Idle
+slotCalls s Stray = uncalled
 
--- ---- host words: what one did, the register that it names, and the value
+-- host words: what one did, the register that it names, and the value
+abbrev pub toldCalls : Told → ℕ → ℕ → Calls
+toldCalls (wrote r tbf) register v = pick (eqb register regTbf) (filled v) uncalled
+toldCalls restarted register v = emptied
+toldCalls (gave rbf value) register v = pick (eqb register regRbf) drawn uncalled
+toldCalls (denied n) register v = uncalled
 
-abbrev pub toldIn : Told → ℕ → ℕ → Buffers → Buffers
-toldIn (wrote r tbf) register v b = pick (eqb register regTbf) (filled b v) b
-toldIn restarted register v b = emptied b
-toldIn (gave rbf value) register v b = pick (eqb register regRbf) (drawn b) b
-toldIn (denied n) register v b = b
+abbrev pub callsAs : Class → State → ℕ → Calls
+callsAs (slot c) s w = slotCalls s c
+callsAs host s w = toldCalls (toldOf (s .core .regs) (s .tbf) (s .rbf) w) (registerOf w) (valueOf w)
 
--- ---- any word
-
-abbrev pub wordAs : Class → State → ℕ → Buffers → Buffers
-wordAs (slot c) s w b = slotIn s c b
-wordAs host s w b = toldIn (toldOf (s .core .regs) (s .tbf) (s .rbf) w) (registerOf w) (valueOf w) b
-
--- the lent arrays and their spans after a word, from the state before it
-unfoldable pub wordIn : State → ℕ → Buffers → Buffers
-wordIn s w b = wordAs (classOf w) s w b
+-- any word, in the state before it
+unfoldable pub wordCalls : State → ℕ → Calls
+wordCalls s w = callsAs (classOf w) s w

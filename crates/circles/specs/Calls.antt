@@ -6,7 +6,7 @@ use lib.Dec.{eqb, ltb}
 use lib.ListN.{drop, set}
 use Rattle.line.specs.Choice.{pick}
 use Rattle.rules.specs.State.{pushOf}
-use Rattle.circles.specs.Circle.{Buffer, buffer, heldOf, listOf, placeIn, startOf, wrap}
+use Rattle.circles.specs.Circle.{Buffer, Unmoved, buffer, heldOf, listOf, placeIn, startOf, wrap}
 use Rattle.circles.specs.declared.Span.{Span}
 
 -- a byte behind the others
@@ -21,11 +21,14 @@ put room b byte =
 unfoldable pub pushed : ℕ → Buffer → ℕ → Buffer
 pushed room b byte = pick (ltb (b .span .count) room) (put room b byte) b
 
--- without the oldest byte, where there is one
+-- without the oldest byte
+abbrev pub fewer : ℕ → Span → Span
+fewer room span =
+    record { first = wrap room (startOf room (span .first) + 1); count = heldOf room (span .count) - 1 }
+
+-- .. where there is one
 unfoldable pub popped : ℕ → Span → Span
-popped room span =
-    pick (eqb (heldOf room (span .count)) 0) span
-    (record { first = wrap room (startOf room (span .first) + 1); count = heldOf room (span .count) - 1 })
+popped room span = pick (eqb (heldOf room (span .count)) 0) span (fewer room span)
 
 -- with none
 abbrev pub vacant : Span
@@ -39,12 +42,17 @@ pub data Call : Type 0 where
   empty : Call
 
 -- the circle after a call
-unfoldable pub turned : ℕ → Buffer → Call → Buffer
+abbrev pub turned : ℕ → Buffer → Call → Buffer
 turned room b (push byte) = pushed room b byte
 turned room b take = buffer (b .bytes) (popped room (b .span))
 turned room b empty = buffer (b .bytes) vacant
 
--- "the old one": a queue, all of whose bytes move up when one leaves
+-- .. and after several
+abbrev pub turns : ℕ → Buffer → List Call → Buffer
+turns room b [] = b
+turns room b (call ∷ calls) = turns room (turned room b call) calls
+
+-- "the old one": the queue of the rules, after a call
 unfoldable pub queued : ℕ → List ℕ → Call → List ℕ
 queued room bytes (push byte) = pushOf room bytes byte
 queued room bytes take = drop 1 bytes
@@ -58,3 +66,9 @@ afterEach step a (call ∷ calls) = step a call ∷ afterEach step (step a call)
 -- "Read as a list, oldest first, the buffer equals the old one after each call"
 pub record AsQueue (room : ℕ) (b : Buffer) (queue : List ℕ) (calls : List Call) : Type 0 where
   pub after-each : map (listOf room) (afterEach (turned room) b calls) ≡ afterEach (queued room) queue calls
+
+-- what a word makes of a buffer: what some calls make of it, and no byte has been moved
+pub record ByCalls (room : ℕ) (b after : Buffer) : Type 0 where
+  pub calls : List Call
+  pub called : after ≡ turns room b calls
+  pub unmoved : Unmoved room b after

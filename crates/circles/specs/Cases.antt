@@ -33,10 +33,10 @@ leaves room b calls lists places =
     ∷ (joined (map laid (afterEach (turned room) b calls)) gives joined places)
     ∷ []
 
--- Three places. A push to a full circle and a take from an empty one leave all as it was; 4 and 7 go to place 0; the
--- circle is full, and empty, at places 0 and 1.
-unfoldable pub roundTwice : List Case
-roundTwice =
+-- Three places. A push to a full circle and a take from an empty one leave all as it was; 4, 7 and 10 go to place 0;
+-- the circle is full, and empty, with its first place at 0 and at 1.
+unfoldable pub threeTimes : List Case
+threeTimes =
     leaves 3 (clear 3)
     (take ∷ push 1 ∷ push 2 ∷ push 3 ∷ push 99 ∷ take ∷ push 4 ∷ take ∷ take ∷ push 5 ∷ push 6 ∷ take ∷ take ∷ take
     ∷ take ∷ push 7 ∷ take ∷ push 8 ∷ push 9 ∷ push 10 ∷ empty ∷ push 11 ∷ [])
@@ -79,18 +79,17 @@ passing room b (push x ∷ calls) = passing room (turned room b (push x)) calls
 passing room b (take ∷ calls) = getD (listOf room b) 0 0 ∷ passing room (turned room b take) calls
 passing room b (empty ∷ calls) = passing room (turned room b empty) calls
 
--- full, refused, a part taken, full again across the end, all taken; and a hundred bytes and more, three times round
+-- full, refused, a part taken, full again across the end, all taken, and once more as many as there is room for
 unfoldable pub longRounds : List Case
 longRounds =
-    (passing tbfBytes (clear tbfBytes) (inAndOut 33 1 0 ++ push 99 ∷ inAndOut 0 0 20 ++ inAndOut 20 34 33)
-    gives upward 53 1 ++ 20 ∷ 0 ∷ upward 20 34 ++ upward 13 21)
-    ∷ (passing rbfBytes (clear rbfBytes) (inAndOut 40 1 0 ++ push 99 ∷ inAndOut 0 0 35 ++ inAndOut 35 41 40)
-    gives upward 75 1 ++ 35 ∷ 0 ∷ upward 35 41 ++ upward 5 36)
-    ∷ (passing tbfBytes (clear tbfBytes)
-    (inAndOut 30 1 30 ++ inAndOut 30 31 30 ++ inAndOut 30 61 30 ++ inAndOut 30 91 20)
-    gives upward 110 1 ++ 11 ∷ 10 ∷ upward 21 100 ++ upward 12 88)
+    (passing tbfBytes (clear tbfBytes)
+    (inAndOut 33 1 0 ++ push 99 ∷ inAndOut 0 0 20 ++ inAndOut 20 34 33 ++ inAndOut 33 54 33)
+    gives upward 86 1 ++ 20 ∷ 0 ∷ upward 20 67 ++ upward 13 54)
+    ∷ (passing rbfBytes (clear rbfBytes)
+    (inAndOut 40 1 0 ++ push 99 ∷ inAndOut 0 0 35 ++ inAndOut 35 41 40 ++ inAndOut 40 76 40)
+    gives upward 115 1 ++ 35 ∷ 0 ∷ upward 35 81 ++ upward 5 76)
     ∷ []
 
-pub circle-cases : allGiven (roundTwice ++ oddCircles ++ longRounds) ≡ true
-unfolding allGiven roundTwice oddCircles longRounds afterEach turned queued pushed popped pushOf circleOf items
+pub circle-cases : allGiven (threeTimes ++ oddCircles ++ longRounds) ≡ true
+unfolding allGiven threeTimes oddCircles longRounds afterEach queued pushed popped pushOf circleOf items
 circle-cases = refl

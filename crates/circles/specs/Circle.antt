@@ -44,7 +44,7 @@ listOf room b = circleOf room (b .bytes) (b .span)
 abbrev pub heldIn : ℕ → Buffer → ℕ
 heldIn room b = heldOf room (b .span .count)
 
--- where the byte lies before which so many have come in
+-- where the byte lies that is so many behind the oldest
 abbrev pub placeIn : ℕ → Buffer → ℕ → ℕ
 placeIn room b k = wrap room (startOf room (b .span .first) + k)
 

@@ -1,13 +1,13 @@
 -- What is done to the lent buffers is what the rules do to the lists that they hold.
 use Prim.Native.Nat.{ℕ}
 use mathlib.Core.List.{List}
-use mathlib.Core.Path.{_≡_, refl, ap, _∙_}
+use mathlib.Core.Path.{_≡_, refl, ap, ap₂, _∙_}
 use lib.ListN.{length}
 use Rattle.line.specs.Numbers.{rbfBytes, tbfBytes}
 use Rattle.lent.specs.Both.{Loan, buffersIn, gaveIn, loanActed, loanDrawn, loanFilled, loanIn, resetLent}
 use Rattle.lent.specs.Both.{takenIn, writtenIn}
-use Rattle.circles.specs.Buffers.{Buffers, emptied, sentBy, storedBy}
-use Rattle.circles.specs.Calls.{popped, pushed}
+use Rattle.circles.specs.Buffers.{Buffers, called, emptied, sentBy, storedBy}
+use Rattle.circles.specs.Calls.{popped, pushed, turns}
 use Rattle.circles.specs.Circle.{Buffer, buffer, circleOf, items, listOf}
 use Rattle.circles.specs.declared.Span.{Span}
 use Rattle.lent.specs.declared.step.Lent.{Lent}
@@ -25,14 +25,14 @@ loanOf core b =
     }
 
 -- a slot's act is carried out
-pub acted-state : (u : Lent) (acted : Acted) (t r r' : List ℕ) (stored : Span)
-    → buffer r' stored ≡ storedBy (acted .act) (buffer r (u .rbf)) → length r ≡ rbfBytes
-    → takenIn (loanIn (record { core = acted .core; tbf = sentBy (acted .act) (u .tbf); rbf = stored }) t r')
+pub acted-state : (u : Lent) (acted : Acted) (t r r' : List ℕ) (sent stored : Span)
+    → buffer t sent ≡ turns tbfBytes (buffer t (u .tbf)) (sentBy (acted .act))
+    → buffer r' stored ≡ turns rbfBytes (buffer r (u .rbf)) (storedBy (acted .act)) → length r ≡ rbfBytes
+    → takenIn (loanIn (record { core = acted .core; tbf = sent; rbf = stored }) t r')
     ≡ takenIn (loanActed (loanIn u t r) acted)
-acted-state u acted t r r' stored e full =
-    ap (λ (b : Buffer). takenIn (loanOf (acted .core)
-    (record { tbf = buffer t (sentBy (acted .act) (u .tbf)); rbf = b }))) e
-    ∙ rw (sent-list (acted .act) t (u .tbf), stored-list (acted .act) (buffer r (u .rbf)) full) refl
+acted-state u acted t r r' sent stored d e full =
+    ap₂ (λ (tbf rbf : Buffer). takenIn (loanOf (acted .core) (record { tbf = tbf; rbf = rbf }))) d e
+    ∙ rw (sent-list (acted .act) (buffer t (u .tbf)), stored-list (acted .act) (buffer r (u .rbf)) full) refl
 
 -- a byte is written to TBF
 pub filled-state : (u : Lent) (v : ℕ) (t t' r : List ℕ) (sent : Span)
@@ -51,6 +51,6 @@ drawn-state u t r v = rw (pop-list rbfBytes r (u .rbf)) refl
 
 -- a reset
 pub reset-state : (u : Lent) (t r : List ℕ)
-    → loanIn resetLent t r ≡ record { state = reset; buffers = emptied (buffersIn u t r) }
+    → loanIn resetLent t r ≡ record { state = reset; buffers = called emptied (buffersIn u t r) }
 unfolding circleOf items
 reset-state u t r = refl

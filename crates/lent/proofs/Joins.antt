@@ -18,8 +18,8 @@ use Rattle.lent.specs.declared.step.Done.{Done}
 use Rattle.lent.specs.declared.step.Lent.{Lent}
 use Rattle.lent.specs.Both.{Loan, gaveIn, loanActed, loanDrawn, loanFilled}
 use Rattle.lent.specs.Both.{loanWritten, refusedIn, slotActed, slotRefusal, takenIn, writtenIn}
-use Rattle.circles.specs.Buffers.{NoneMoved, emptied, slotIn, wordIn}
-use Rattle.circles.proofs.Words.{word-unmoved}
+use Rattle.circles.specs.Buffers.{InCircles, called, emptied, slotCalls, wordCalls}
+use Rattle.circles.proofs.Words.{word-circles}
 use Rattle.rules.specs.Registers.{readRefusal, readTold, readValue, registerOf, toldOf, valueOf, writeDone}
 use Rattle.rules.specs.Registers.{writeRefusal, writeTold, written}
 use Rattle.rules.specs.State.{isEmpty, reset}
@@ -30,7 +30,7 @@ use Rattle.rules.specs.Step.{answerOf, clashes, nextDrive, slotOn, slotSaid, st
 
 pub slot-refused : (l : Loan) (c : Slot) → eqb (slotRefusal (l .state) c) 0 ≡ false
     → refusedIn l (slotRefusal (l .state) c) ≡ afterSlot l c
-unfolding slotOn slotSaid slotIn slotRefusal
+unfolding slotOn slotSaid slotCalls slotRefusal
 slot-refused l (Level bit) some =
     ⊎-elim (λ (clash : clashes (l .state) bit ≡ true). simp clash)
     (λ (free : clashes (l .state) bit ≡ false). absurd (subst T (simp free at some) tt))
@@ -41,7 +41,7 @@ slot-refused l Stray some = refl
 
 pub slot-taken : (l : Loan) (c : Slot) → eqb (slotRefusal (l .state) c) 0 ≡ true
     → takenIn (loanActed l (slotActed (l .state) c)) ≡ afterSlot l c
-unfolding slotOn slotSaid slotIn slotRefusal
+unfolding slotOn slotSaid slotCalls slotRefusal
 slot-taken l (Level bit) none =
     ⊎-elim (λ (clash : clashes (l .state) bit ≡ true). absurd (subst T (sym (simp clash at none)) tt))
     (λ (free : clashes (l .state) bit ≡ false). simp free) (either (clashes (l .state) bit))
@@ -57,7 +57,7 @@ unfolding writeDone
 done-tbf l register v tbf = simp tbf
 
 pub done-reset : (l : Loan) (register v : ℕ) → eqb register 0xE ≡ false → eqb register 0x0 && eqb v 0x08 ≡ true
-    → writtenIn (record { state = reset; buffers = emptied (l .buffers) }) ≡ afterDone l register v
+    → writtenIn (record { state = reset; buffers = called emptied (l .buffers) }) ≡ afterDone l register v
 unfolding writeDone
 done-reset l register v other again = simp (other, again)
 
@@ -126,11 +126,11 @@ unfolding toldOf
 told-refused l w one two = simp (one, two)
 
 pub step-slot : (l : Loan) (w : ℕ) → eqb (kindOf w) kindSlot ≡ true → afterSlot l (slotOf w) ≡ afterWord l w
-unfolding stepOf answerOf wordIn classOf
+unfolding stepOf answerOf wordCalls classOf
 step-slot l w kind = simp kind
 
 pub step-host : (l : Loan) (w : ℕ) → eqb (kindOf w) kindSlot ≡ false → afterHost l w ≡ afterWord l w
-unfolding stepOf answerOf wordIn classOf
+unfolding stepOf answerOf wordCalls classOf
 step-host l w kind = simp kind
 
 -- ---- all that is left
@@ -148,9 +148,9 @@ runs {u} {w} {t} {t'} {r} {r'} {a} sent stored word =
       state = λ ft fr. ap (λ (b : Both). b .loan .state) (word ft fr);
       answer = λ ft fr. ap (λ (b : Both). b .answer) (word ft fr);
       whole = λ ft fr. ap (λ (b : Both). leftAs (b .loan .state) (b .answer) (b .loan .buffers)) (word ft fr);
-      unmoved =
-          λ ft fr. subst (λ (b : Both). NoneMoved (buffersIn u t r) (b .loan .buffers)) (sym (word ft fr))
-          (word-unmoved (stateIn u t r) w (buffersIn u t r));
+      circles =
+          λ ft fr. subst (λ (b : Both). InCircles (buffersIn u t r) (b .loan .buffers)) (sym (word ft fr))
+          (word-circles (stateIn u t r) w (buffersIn u t r));
     }
 
 -- the answer, from what the word came to and what is then driven

@@ -28,11 +28,11 @@ use Rattle.rules.specs.declared.state.Act.the-variants.{Nothing}
 use Rattle.rules.specs.declared.state.Acted.{Acted}
 use Rattle.rules.specs.declared.state.Core.{Core}
 use Rattle.rules.specs.declared.state.Seen.{Seen}
-use Rattle.circles.specs.Buffers.{sentBy, storedBy, wordIn}
+use Rattle.circles.specs.Buffers.{sentBy, storedBy, wordCalls}
 use Rattle.lent.specs.Both.{Loan, afterSlot, afterWord, loanActed, slotRefusal, takenIn}
 use Rattle.rules.specs.Endings.{acted}
 use Rattle.lent.specs.Plain.{amidAt, amidOf, insideOf, listenedAt, listenedOf, plainAt, plainCore, plainOf}
-use Rattle.lent.specs.Plain.{loanTook, tookOn}
+use Rattle.lent.specs.Plain.{loanTook}
 use Rattle.rules.specs.Slots.{coreDrive, driveAt, onEvent, onLevel}
 use Rattle.rules.specs.State.{isEmpty, rbfAfter, seenOf, takesPart, tbfAfter, viewOf}
 use Rattle.rules.specs.Step.{answerOf, clashes, nextDrive, stepOf}
@@ -218,14 +218,14 @@ agreed-slot l bit e d =
 
 pub plain-word : (l : Loan) (w : ℕ) → leb w 1 ≡ true → plainOf (l .state .core .frame) ≡ true
     → record { loan = loanTook l (eqb w 1); answer = Given (Taken driveReleased) } ≡ afterWord l w
-unfolding stepOf answerOf wordIn classOf slotOf
+unfolding stepOf answerOf wordCalls classOf slotOf
 plain-word l w level e =
     level-word (λ (k : ℕ). record { loan = loanTook l (eqb k 1); answer = Given (Taken driveReleased) } ≡ afterWord l k)
     w level (plain-slot l false e) (plain-slot l true e)
 
 pub agreed-word : (l : Loan) (w : ℕ) → leb w 1 ≡ true → amidOf (l .state .core .frame) ≡ true
     → eqb (nextDrive (l .state)) w ≡ true → takenIn (loanTook l (eqb w 1)) ≡ afterWord l w
-unfolding stepOf answerOf wordIn classOf slotOf
+unfolding stepOf answerOf wordCalls classOf slotOf
 agreed-word l w level e d =
     level-word (λ (k : ℕ). eqb (nextDrive (l .state)) k ≡ true → takenIn (loanTook l (eqb k 1)) ≡ afterWord l k) w
     level (λ zero. agreed-slot l false e (eqb-true _ _ zero)) (λ one. agreed-slot l true e (eqb-true _ _ one)) d

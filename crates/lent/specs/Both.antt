@@ -11,14 +11,16 @@ use Rattle.line.specs.declared.slot.Slot.{Slot}
 use Rattle.line.specs.declared.slot.Slot.the-variants.{Level, Start, Idle, Stray}
 use Rattle.rules.specs.declared.answer.Answer.{Answer}
 use Rattle.rules.specs.declared.answer.Answer.the-variants.{Given, Refused}
-use Rattle.circles.specs.Buffers.{Buffers, NoneMoved, actedIn, drawn, filled, slotIn, toldIn, wordIn}
-use Rattle.circles.specs.Calls.{vacant}
+use Rattle.circles.specs.Buffers.{Buffers, InCircles, acting, called, drawn, filled, sentBy, slotCalls}
+use Rattle.circles.specs.Buffers.{toldCalls, wordCalls}
+use Rattle.circles.specs.Calls.{turns, vacant}
 use Rattle.circles.specs.Circle.{buffer, circleOf}
 use Rattle.circles.specs.declared.Span.{Span}
 use Rattle.lent.specs.declared.answer.Outcome.{Outcome}
 use Rattle.lent.specs.declared.answer.Outcome.the-variants.{Taken as took, Written as wrote, Read as read}
 use Rattle.lent.specs.declared.answer.Outcome.the-variants.{Refused as denied}
 use Rattle.rules.specs.declared.answer.Reply.the-variants.{Taken, Written, Read}
+use Rattle.rules.specs.declared.state.Act.{Act}
 use Rattle.rules.specs.declared.state.Acted.{Acted}
 use Rattle.rules.specs.declared.state.Registers.{Registers}
 use Rattle.rules.specs.declared.state.Seen.{Seen}
@@ -58,10 +60,10 @@ leftAs s answer b =
       rbf = b .rbf .bytes;
     }
 
--- scalars and answer are those of the rules; the arrays and their spans are those of `Buffers.antt`
+-- scalars and answer are those of the rules; the arrays and their spans are what the word's calls make of them
 unfoldable pub leftBy : Lent → ℕ → List ℕ → List ℕ → Left
 leftBy u w t r =
-    let s = stateIn u t r in leftAs (stepOf s w) (answerOf s w) (wordIn s w (buffersIn u t r))
+    let s = stateIn u t r in leftAs (stepOf s w) (answerOf s w) (called (wordCalls s w) (buffersIn u t r))
 
 -- ---- a state with its arrays, and an answer
 
@@ -103,7 +105,7 @@ abbrev pub gaveIn : Loan → ℕ → Both
 gaveIn l value = record { loan = l; answer = Given (Read value (nextDrive (l .state))) }
 
 abbrev pub loanActed : Loan → Acted → Loan
-loanActed l a = record { state = actedOn (l .state) a; buffers = actedIn (a .act) (l .buffers) }
+loanActed l a = record { state = actedOn (l .state) a; buffers = called (acting (a .act)) (l .buffers) }
 
 -- a byte more in TBF
 abbrev pub loanFilled : Loan → ℕ → Loan
@@ -111,7 +113,7 @@ loanFilled l v =
     let s = l .state in
     record {
       state = record { core = s .core; tbf = pushOf tbfBytes (s .tbf) v; rbf = s .rbf };
-      buffers = filled (l .buffers) v;
+      buffers = called (filled v) (l .buffers);
     }
 
 -- other registers
@@ -126,14 +128,14 @@ loanDrawn l =
     let s = l .state in
     record {
       state = record { core = s .core; tbf = s .tbf; rbf = drop 1 (s .rbf) };
-      buffers = drawn (l .buffers);
+      buffers = called drawn (l .buffers);
     }
 
 abbrev pub afterSlot : Loan → Slot → Both
 afterSlot l c =
     let s = l .state in
     record {
-      loan = record { state = slotOn s c; buffers = slotIn s c (l .buffers) };
+      loan = record { state = slotOn s c; buffers = called (slotCalls s c) (l .buffers) };
       answer = slotSaid s (slotOn s c) c;
     }
 
@@ -142,7 +144,7 @@ abbrev pub afterTold : Loan → Told → ℕ → ℕ → Both
 afterTold l t register v =
     let s = l .state in
     record {
-      loan = record { state = toldOn s t; buffers = toldIn t register v (l .buffers) };
+      loan = record { state = toldOn s t; buffers = called (toldCalls t register v) (l .buffers) };
       answer = toldSaid (toldOn s t) t;
     }
 
@@ -164,7 +166,7 @@ abbrev pub afterWord : Loan → ℕ → Both
 afterWord l w =
     let s = l .state in
     record {
-      loan = record { state = stepOf s w; buffers = wordIn s w (l .buffers) };
+      loan = record { state = stepOf s w; buffers = called (wordCalls s w) (l .buffers) };
       answer = answerOf s w;
     }
 
@@ -189,6 +191,9 @@ Length room span n = (bytes : List ℕ) → n ≡ length (circleOf room bytes sp
 
 abbrev pub Clear : ℕ → Span → Bool → Type 0
 Clear room span clear = (bytes : List ℕ) → clear ≡ isEmpty (circleOf room bytes span)
+
+abbrev pub Sends : Act → Span → Span → Type 0
+Sends act span after = (bytes : List ℕ) → buffer bytes after ≡ turns tbfBytes (buffer bytes span) (sentBy act)
 
 abbrev pub Drives : Lent → ℕ → Type 0
 Drives u drive = (t r : List ℕ) → drive ≡ nextDrive (stateIn u t r)
@@ -247,11 +252,11 @@ Works u w t t' r r' d =
 
 -- the buffers after it have as many bytes as before; and where they are lent with all their bytes, state and answer
 -- are those of the rules, all that is left is that of the definition, each place of the arrays included, and no byte
--- that stays has been moved
+-- in them has been moved
 pub record Runs (u : Lent) (w : ℕ) (t t' r r' : List ℕ) (a : Answered) : Type 0 where
   pub tbf-kept : length t' ≡ length t
   pub rbf-kept : length r' ≡ length r
   pub state : length t ≡ tbfBytes → length r ≡ rbfBytes → stateIn (a .lent) t' r' ≡ stepOf (stateIn u t r) w
   pub answer : length t ≡ tbfBytes → length r ≡ rbfBytes → a .answer ≡ answerOf (stateIn u t r) w
   pub whole : length t ≡ tbfBytes → length r ≡ rbfBytes → leftIn a t' r' ≡ leftBy u w t r
-  pub unmoved : length t ≡ tbfBytes → length r ≡ rbfBytes → NoneMoved (buffersIn u t r) (buffersIn (a .lent) t' r')
+  pub circles : length t ≡ tbfBytes → length r ≡ rbfBytes → InCircles (buffersIn u t r) (buffersIn (a .lent) t' r')

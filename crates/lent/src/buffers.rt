@@ -5,10 +5,10 @@ ghost use mathlib.Core.Path.{_≡_};
 ghost use lib.ListN.{getD};
 ghost use Prim.Native.Nat.{_+_, _<_, _≤_};
 ghost use Rattle.line.specs.Numbers.{rbfBytes, tbfBytes};
-ghost use Rattle.circles.specs.Buffers.{sentBy, storedBy};
-ghost use Rattle.circles.specs.Calls.{popped, pushed, vacant};
+ghost use Rattle.circles.specs.Buffers.{storedBy};
+ghost use Rattle.circles.specs.Calls.{popped, pushed, turns, vacant};
 ghost use Rattle.circles.specs.Circle.{buffer, circleOf, heldOf, startOf, wrap};
-ghost use Rattle.lent.specs.Both.{Clear, Length};
+ghost use Rattle.lent.specs.Both.{Clear, Length, Sends};
 use circles::Span;
 use line::numbers::RBF_BYTES;
 use line::numbers::TBF_BYTES;
@@ -136,7 +136,7 @@ pub(crate) fn rbf_push(bytes: &mut [u8; RBF_BYTES], mut span: Span, byte: u8) ->
 
 // What a slot does to TBF.
 pub(crate) fn tbf_after(act: Act, span: Span) -> Span
-    ensures { λ r. ⌜ r ≡ sentBy act span ⌝ }
+    ensures { λ r. ⌜ Sends act span r ⌝ }
 {
     match act {
         Act::Nothing => span,
@@ -149,7 +149,8 @@ pub(crate) fn tbf_after(act: Act, span: Span) -> Span
 
 // What a slot does to RBF.
 pub(crate) fn rbf_after(act: Act, bytes: &mut [u8; RBF_BYTES], span: Span) -> Span
-    ensures { λ r. ⌜ buffer (now (bytes .exit)) r ≡ storedBy act (buffer (now (bytes .entry)) span) ⌝ }
+    ensures { λ r. ⌜ buffer (now (bytes .exit)) r
+        ≡ turns rbfBytes (buffer (now (bytes .entry)) span) (storedBy act) ⌝ }
 {
     match act {
         Act::Nothing => span,

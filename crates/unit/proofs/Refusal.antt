@@ -7,7 +7,7 @@ use Rattle.line.specs.Slot.{Class, slot, host, classOf}
 use Rattle.line.specs.declared.slot.Slot.{Slot}
 use Rattle.line.specs.declared.slot.Slot.the-variants.{Level, Start, Idle, Stray}
 use Rattle.lent.specs.Both.{buffersIn, leftBy}
-use Rattle.circles.specs.Buffers.{Buffers, slotIn, toldIn, wordAs, wordIn}
+use Rattle.circles.specs.Buffers.{Buffers, Calls, called, callsAs, slotCalls, toldCalls, uncalled, wordCalls}
 use Rattle.rules.proofs.Ruled.{given-is-none, refused-unchanged}
 use Rattle.rules.specs.Registers.{Told, wrote, restarted, gave, denied, registerOf, toldOf, valueOf}
 use Rattle.rules.specs.State.{State}
@@ -19,35 +19,35 @@ use Rattle.rules.specs.declared.state.Core.{Core}
 use Rattle.unit.specs.Unit.{lentOf, stateOf, unitBy}
 use Rattle.unit.specs.declared.step.Unit.{Unit}
 
--- ---- the arrays and their spans
+-- ---- its buffers: a refused word calls neither
 
-level-kept : (c : Bool) (b after : Buffers) (m : ℕ) (reply : Reply) (n : ℕ)
-    → pick c (Refused m) (Given reply) ≡ Refused n → pick c b after ≡ b
-level-kept true b after m reply n e = refl
-level-kept false b after m reply n e = absurd (given-is-none reply n e)
+level-uncalled : (c : Bool) (calls : Calls) (m : ℕ) (reply : Reply) (n : ℕ)
+    → pick c (Refused m) (Given reply) ≡ Refused n → pick c uncalled calls ≡ uncalled
+level-uncalled true calls m reply n e = refl
+level-uncalled false calls m reply n e = absurd (given-is-none reply n e)
 
-slot-kept : (s t : State) (c : Slot) (b : Buffers) (n : ℕ) → slotSaid s t c ≡ Refused n → slotIn s c b ≡ b
-unfolding slotSaid slotIn
-slot-kept s t (Level bit) b n e = level-kept (clashes s bit) b _ _ _ n e
-slot-kept s t Start b n e = absurd (given-is-none _ n e)
-slot-kept s t Idle b n e = absurd (given-is-none _ n e)
-slot-kept s t Stray b n e = refl
+slot-uncalled : (s t : State) (c : Slot) (n : ℕ) → slotSaid s t c ≡ Refused n → slotCalls s c ≡ uncalled
+unfolding slotSaid slotCalls
+slot-uncalled s t (Level bit) n e = level-uncalled (clashes s bit) _ _ _ n e
+slot-uncalled s t Start n e = absurd (given-is-none _ n e)
+slot-uncalled s t Idle n e = absurd (given-is-none _ n e)
+slot-uncalled s t Stray n e = refl
 
-told-kept : (t : State) (told : Told) (register v : ℕ) (b : Buffers) (n : ℕ) → toldSaid t told ≡ Refused n
-    → toldIn told register v b ≡ b
-told-kept t (wrote r tbf) register v b n e = absurd (given-is-none _ n e)
-told-kept t restarted register v b n e = absurd (given-is-none _ n e)
-told-kept t (gave rbf value) register v b n e = absurd (given-is-none _ n e)
-told-kept t (denied m) register v b n e = refl
+told-uncalled : (t : State) (told : Told) (register v n : ℕ) → toldSaid t told ≡ Refused n
+    → toldCalls told register v ≡ uncalled
+told-uncalled t (wrote r tbf) register v n e = absurd (given-is-none _ n e)
+told-uncalled t restarted register v n e = absurd (given-is-none _ n e)
+told-uncalled t (gave rbf value) register v n e = absurd (given-is-none _ n e)
+told-uncalled t (denied m) register v n e = refl
 
-as-kept : (k : Class) (s t : State) (w : ℕ) (b : Buffers) (n : ℕ) → saidAs k s t w ≡ Refused n → wordAs k s w b ≡ b
-as-kept (slot c) s t w b n e = slot-kept s t c b n e
-as-kept host s t w b n e =
-    told-kept t (toldOf (s .core .regs) (s .tbf) (s .rbf) w) (registerOf w) (valueOf w) b n e
+as-uncalled : (k : Class) (s t : State) (w n : ℕ) → saidAs k s t w ≡ Refused n → callsAs k s w ≡ uncalled
+as-uncalled (slot c) s t w n e = slot-uncalled s t c n e
+as-uncalled host s t w n e =
+    told-uncalled t (toldOf (s .core .regs) (s .tbf) (s .rbf) w) (registerOf w) (valueOf w) n e
 
-word-kept : (s : State) (w : ℕ) (b : Buffers) (n : ℕ) → answerOf s w ≡ Refused n → wordIn s w b ≡ b
-unfolding answerOf wordIn
-word-kept s w b n e = as-kept (classOf w) s (stepOf s w) w b n e
+word-uncalled : (s : State) (w n : ℕ) → answerOf s w ≡ Refused n → wordCalls s w ≡ uncalled
+unfolding answerOf wordCalls
+word-uncalled s w n e = as-uncalled (classOf w) s (stepOf s w) w n e
 
 -- ---- the unit
 
@@ -65,8 +65,8 @@ unfolding unitBy leftBy
 refused-whole u w n e =
     let s = stateOf u in
     let b = buffersIn (lentOf u) (u .tbf .bytes) (u .rbf .bytes) in
-    ap (λ (t : State). unitOf (t .core) (wordIn s w b)) (refused-unchanged s w n e)
-    ∙ ap (λ (kept : Buffers). unitOf (u .core) kept) (word-kept s w b n e)
+    ap (λ (t : State). unitOf (t .core) (called (wordCalls s w) b)) (refused-unchanged s w n e)
+    ∙ ap (λ (calls : Calls). unitOf (u .core) (called calls b)) (word-uncalled s w n e)
 
 -- what the rules leave of a unit, and that this is the unit as it was where the answer is a refusal
 pub whole-unchanged : (u v : Unit) (w : ℕ) (a : Answer) → v ≡ unitBy u w → a ≡ answerOf (stateOf u) w

@@ -1,5 +1,7 @@
 use borrow.Author.Needs.{needs}
+use mathlib.Core.Path.{ap}
 use Rattle.circles.specs.Buffers.{sentBy}
+use Rattle.circles.specs.Circle.{buffer}
 use Rattle.lent.proofs.buffers.tbf_after.Statement.{statement}
 use Rattle.lent.proofs.buffers.tbf_after.Tie as tie
 
@@ -15,8 +17,8 @@ tbf-after-spec =
     (λ c κs. search needs)
     (λ c. search needs)
     (λ c. search needs)
-    (λ c. simp (c .enum-told .given .1))
-    (λ c. rw (c .before .enum-told2 .given .1) (c .without-oldest .ensures))
-    (λ c. rw (c .before .enum-told3 .given .1) (c .no-bytes .ensures))
-    (λ c. simp (c .enum-told4 .given .1))
-    (λ c. simp (c .enum-told5 .given .1)))
+    (λ c bytes. simp (c .enum-told .given .1))
+    (λ c bytes. rw (c .before .enum-told2 .given .1) (ap (buffer bytes) (c .without-oldest .ensures)))
+    (λ c bytes. rw (c .before .enum-told3 .given .1) (ap (buffer bytes) (c .no-bytes .ensures)))
+    (λ c bytes. simp (c .enum-told4 .given .1))
+    (λ c bytes. simp (c .enum-told5 .given .1)))

@@ -17,6 +17,6 @@ acted-on-spec =
     (λ c. let a = c .before .before .before .before .before .args in
     let stored = c .before .rbf-after .ensures in (
       ap (λ (b : Buffer). length (b .bytes)) stored ∙ stored-length _ _,
-      λ t full. rw (c .done .ensures, c .before .before .before .tbf-after .ensures)
-          (acted-state (a .self) (a .acted) t _ _ _ stored full),
+      λ t full. rw (c .done .ensures)
+          (acted-state (a .self) (a .acted) t _ _ _ _ (c .before .before .before .tbf-after .ensures t) stored full),
     )))
