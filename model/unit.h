@@ -5,14 +5,14 @@
 #include <stdbool.h>
 #include <stddef.h>
 #include <stdint.h>
+#include <string.h>
 
 #include "words.h"
 
-/* A first-in first-out buffer of at most 63 bytes; 64 places let the index wrap by a mask. */
-#define FIFO_PLACES 64
+/* A buffer as a list, "oldest first", that every take shifts. The circles of ticket 9 are held against it: "Read as a
+   list, oldest first, the buffer equals the old one after each call". */
 struct fifo {
-    uint8_t bytes[FIFO_PLACES];
-    uint8_t first;
+    uint8_t bytes[RBF_CAPACITY];
     uint8_t count;
 };
 
@@ -88,15 +88,16 @@ unsigned own_address(const struct unit *u);
 unsigned requested_slave(const struct unit *u);
 bool control_defined(unsigned control);
 
+/* The list never comes to 40 bytes; the remainder keeps a wrong variant of the rules inside its array. */
 static inline void fifo_push(struct fifo *f, uint8_t byte)
 {
-    f->bytes[(f->first + f->count++) % FIFO_PLACES] = byte;
+    f->bytes[f->count++ % RBF_CAPACITY] = byte;
 }
 
 static inline uint8_t fifo_pop(struct fifo *f)
 {
-    uint8_t byte = f->bytes[f->first];
-    f->first = (f->first + 1) % FIFO_PLACES;
+    uint8_t byte = f->bytes[0];
+    memmove(f->bytes, f->bytes + 1, RBF_CAPACITY - 1);
     f->count--;
     return byte;
 }

@@ -2,6 +2,7 @@
 #include "isolation.h"
 
 #include <stdint.h>
+#include <string.h>
 
 static bool is_kind_0(uint32_t word)
 {
@@ -108,12 +109,7 @@ size_t answers_alike(const struct run *a, const struct run *b, size_t count)
 
 static bool fifo_alike(const struct fifo *a, const struct fifo *b)
 {
-    if (a->count != b->count)
-        return false;
-    for (unsigned i = 0; i < a->count; i++)
-        if (a->bytes[(a->first + i) % FIFO_PLACES] != b->bytes[(b->first + i) % FIFO_PLACES])
-            return false;
-    return true;
+    return a->count == b->count && memcmp(a->bytes, b->bytes, a->count) == 0;
 }
 
 bool state_alike(const struct unit *a, const struct unit *b)
