@@ -43,6 +43,8 @@ static const struct code_step_item steps[] = {
 
 static void observe_steps(uint64_t *counts, const struct moment *m)
 {
+    if (m->after->marc == m->before->marc && m->after->slrc == m->before->slrc)
+        return;
     for (size_t i = 0; i < STEPS; i++) {
         uint8_t from = steps[i].master ? m->before->marc : m->before->slrc;
         uint8_t to = steps[i].master ? m->after->marc : m->after->slrc;

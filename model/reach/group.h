@@ -20,6 +20,6 @@ struct group {
 extern const struct group refusal_reasons, refusal_places, host_places;
 extern const struct group codes, code_steps, status_bytes;
 extern const struct group slave_controls, refused_controls, slave_ends, master_ends;
-extern const struct group cut_slots, losses, locks, attempts, particulars, invariants;
+extern const struct group cut_slots, losses, locks, attempts, tbf_circle, rbf_circle, particulars, invariants;
 
 #endif

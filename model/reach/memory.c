@@ -61,8 +61,10 @@ void memory_note(const struct moment *m)
     note_status(m);
     if (is_slot(m, SLOT_START))
         m->memory->life++;
-    if (is_write_of(m, WRITE_CTR, CTR_RESET))
+    if (is_reset(m))
         m->memory->life = 0;
+    if (sends_past_end(m))
+        m->memory->tbf_crossed = true;
     if (is_host(m))
         note_host(m);
     else if (is_level(m))
@@ -74,16 +76,32 @@ void memory_note(const struct moment *m)
         m->memory->stranger_since = true;
 }
 
+/* What the circles have taken with the word counts from the next word on. */
+static void turn(const struct moment *m)
+{
+    struct turns *turns = &m->memory->turns;
+    bool tbf = takes_tbf(m);
+    if (is_reset(m)) {
+        *turns = (struct turns){0};
+        return;
+    }
+    turns->request = empties_tbf(m) ? 0 : turns->request + tbf;
+    turns->tbf += tbf;
+    turns->rbf += takes_rbf(m);
+}
+
 void memory_forget(const struct moment *m)
 {
-    struct memory kept = *m->memory;
+    turn(m);
     bool ended = m->before->frame.field != WAITING && m->after->frame.field == WAITING;
     if (ended || is_slot(m, SLOT_START)) {
+        struct memory kept = *m->memory;
         memset(m->memory, 0, sizeof *m->memory);
         m->memory->continued = kept.continued;
         m->memory->stranger_since = kept.stranger_since;
         m->memory->life = kept.life;
         m->memory->desk = kept.desk;
+        m->memory->turns = kept.turns;
     }
     if (is_slot(m, SLOT_IDLE))
         m->memory->level_at_start = false;

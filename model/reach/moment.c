@@ -22,16 +22,37 @@ unsigned field_bits_with_parity(unsigned field)
     }
 }
 
-bool at_parity(const struct moment *m, unsigned field)
+bool empties_tbf(const struct moment *m)
 {
-    const struct frame *f = &m->before->frame;
-    return is_level(m) && f->field == field && f->count + 1u == field_bits_with_parity(field);
+    const struct unit *b = m->before, *a = m->after;
+    return (b->marq && !a->marq && request_writes(b)) || (b->strq && !a->strq);
 }
 
-bool at_acknowledge(const struct moment *m, unsigned field)
+bool takes_tbf(const struct moment *m)
 {
-    const struct frame *f = &m->before->frame;
-    return is_level(m) && f->field == field && f->count == field_bits_with_parity(field);
+    return is_level(m) && m->after->tbf.count < m->before->tbf.count && !empties_tbf(m);
+}
+
+bool takes_rbf(const struct moment *m)
+{
+    return is_host(m) && m->after->rbf.count < m->before->rbf.count && !is_reset(m);
+}
+
+/* The length has left TBF before in the frame, so that place 0 is not where the sending begins. */
+bool sends_past_end(const struct moment *m)
+{
+    return takes_tbf(m) && m->after->frame.field == FIELD_DATA && m->memory->turns.tbf % TBF_CAPACITY == 0;
+}
+
+const char *const pass_names[PASSES] = {
+    "once", "twice", "three times", "4 to 99 times", "100 times or more"
+};
+
+/* Writing or storing at the beginning itself passes no end. */
+void count_pass(uint64_t *counts, uint32_t pass)
+{
+    if (pass > 0)
+        counts[pass < PASSES - 1 ? pass - 1 : pass < 100 ? PASSES - 2 : PASSES - 1]++;
 }
 
 static enum way way_at_acknowledge(const struct moment *m)

@@ -12,6 +12,14 @@ struct desk {
     bool stands;                 /* SLRE is as it was when the byte was fixed, and so is whether RBF is empty */
 };
 
+/* Bytes taken since the beginning of a circle, by which a byte's place in it is known: ticket 9's "array with a first
+   place and a count, going round at the end". A circle begins with place 0 at a reset; TBF's may begin again with
+   each word that empties it. */
+struct turns {
+    uint32_t request;            /* from TBF, since the latest reset or end of a sending request */
+    uint32_t tbf, rbf;           /* since the latest reset */
+};
+
 struct memory {
     unsigned lost_slot;          /* slot of the frame in which the unit lost its contest, 0 for none */
     bool mode_turned;            /* UAR1 was written with the other mode inside the frame */
@@ -29,6 +37,8 @@ struct memory {
     bool stranger_since;         /* a stranger's frame came since the lock was taken */
     unsigned life;               /* frames since the unit was reset */
     struct desk desk;            /* the latest one to be sent the status byte */
+    struct turns turns;          /* as before the word */
+    bool tbf_crossed;            /* a byte of TBF's place 32 and one of place 0 were sent in the frame */
 };
 
 struct moment {
@@ -40,6 +50,11 @@ struct moment {
 static inline bool taken(const struct moment *m)
 {
     return m->answer >> KIND_SHIFT != KIND_REFUSED;
+}
+
+static inline bool refused_by(const struct moment *m, enum refusal number)
+{
+    return m->answer == ((uint32_t)KIND_REFUSED << KIND_SHIFT | number);
 }
 
 static inline bool is_slot(const struct moment *m, unsigned slot)
@@ -71,8 +86,35 @@ static inline bool is_write_of(const struct moment *m, unsigned reg, unsigned va
 unsigned field_bits_with_parity(unsigned field);
 
 /* The word is the level of the field's P, or of its A. */
-bool at_parity(const struct moment *m, unsigned field);
-bool at_acknowledge(const struct moment *m, unsigned field);
+static inline bool at_parity(const struct moment *m, unsigned field)
+{
+    const struct frame *f = &m->before->frame;
+    return f->field == field && is_level(m) && f->count + 1u == field_bits_with_parity(field);
+}
+
+static inline bool at_acknowledge(const struct moment *m, unsigned field)
+{
+    const struct frame *f = &m->before->frame;
+    return f->field == field && is_level(m) && f->count == field_bits_with_parity(field);
+}
+
+static inline bool is_reset(const struct moment *m)
+{
+    return is_write_of(m, WRITE_CTR, CTR_RESET);
+}
+
+/* What the word did to the buffers: the end of a sending request empties TBF, a field that begins takes its byte. */
+bool empties_tbf(const struct moment *m);
+bool takes_tbf(const struct moment *m);
+bool takes_rbf(const struct moment *m);
+
+/* A byte begins that lies in TBF's place 0, after one of the same frame in place 32, by a circle that a reset began. */
+bool sends_past_end(const struct moment *m);
+
+/* How often the end of a circle has been passed since its beginning, as far as it is told apart. */
+enum { PASSES = 5 };
+extern const char *const pass_names[PASSES];
+void count_pass(uint64_t *counts, uint32_t pass);
 
 /* How the frame ended for the unit with this word. */
 enum way {

@@ -19,8 +19,8 @@
 
 static const struct group *const groups[] = {
     &refusal_reasons, &refusal_places, &host_places, &codes, &code_steps, &status_bytes, &slave_controls,
-    &refused_controls, &slave_ends, &master_ends, &cut_slots, &losses, &locks, &attempts, &particulars,
-    &invariants
+    &refused_controls, &slave_ends, &master_ends, &cut_slots, &losses, &locks, &attempts, &tbf_circle, &rbf_circle,
+    &particulars, &invariants
 };
 #define GROUPS (sizeof groups / sizeof *groups)
 #define MAX_ITEMS 1024

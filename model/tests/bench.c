@@ -80,6 +80,7 @@ int main(void)
 {
     known_cases();
     scenes();
+    circles();
     striking();
     life();
     return cases_failed > 0;

@@ -29,6 +29,7 @@ bool call_unit(struct unit *u, unsigned master, unsigned slave, unsigned control
 
 void known_cases(void);
 void scenes(void);
+void circles(void);
 void striking(void);
 void life(void);
 

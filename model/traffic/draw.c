@@ -75,6 +75,34 @@ static void draw_disturbances(struct traffic *t, struct line *l)
         l->spoiled = random_chance(r, 800) ? l->limit - 1 : random_below(r, 33);
 }
 
+/* A frame that nothing disturbs, long enough to fill or to send a buffer, and meanwhile the host writes and reads
+   bytes: the buffers are gone through place by place. */
+static void draw_turning(struct traffic *t, struct line *l)
+{
+    /* AH and BH lock where they do not come to their end, so they come less often. */
+    static const uint32_t transfers[] = {
+        CONTROL_COMMAND_LOCK, CONTROL_DATA_LOCK, CONTROL_COMMAND, CONTROL_COMMAND, CONTROL_DATA, CONTROL_DATA
+    };
+    static const uint32_t lengths[] = {16, 31, 32, 32, 33, 255, 0};
+    static const uint32_t turns[] = {0, 0, 0, 10, 30, 100};
+    struct random *r = &t->random;
+    l->cut_at = l->noise_at = NEVER;
+    l->nak = l->bad_data = l->host = l->timely = l->leave = l->spoiled = l->overrun = 0;
+    l->meddler = false;
+    l->slave_answers = true;
+    l->slave_length = random_pick(r, lengths);
+    l->turn = random_pick(r, turns);
+    for (uint32_t i = 0; i < l->masters_len; i++) {
+        struct master *m = &l->masters[i];
+        m->slave = own_address(&t->unit);
+        m->bad_fields = 0;
+        m->length = random_pick(r, lengths);
+        m->control = random_pick(r, transfers);
+        if (t->unit.strq && !m->broadcast && random_chance(r, 500))
+            m->control = random_chance(r, 500) ? CONTROL_READ_LOCK : CONTROL_READ;
+    }
+}
+
 /* The levels that say whose frame it is: the broadcast bit and the master address. */
 #define NAMING_SLOTS (1u + ADDRESS_BITS)
 
@@ -131,5 +159,7 @@ void draw_line(struct traffic *t, struct line *l)
     /* A frame of many attempts is the one in which a mode written late would show. */
     if (l->spoiled && random_chance(r, 500))
         l->timely = 600;
+    if (random_chance(r, t->habits.turn))
+        draw_turning(t, l);
     limit_masters(t, l);
 }

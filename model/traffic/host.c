@@ -52,7 +52,8 @@ static void own_address_words(struct traffic *t)
     struct random *r = &t->random;
     unsigned address = random_chance(r, 300) ? random_below(r, MAX_ADDRESS + 1) : random_pick(r, choices);
     unsigned enabled = random_chance(r, 850) ? UAR1_SENDING_ENABLED : 0;
-    write_address(t, WRITE_UAR1, WRITE_UAR2, address, enabled | random_below(r, 2));
+    unsigned mode = random_chance(r, t->habits.turn) ? UAR1_MODE : random_below(r, 2);
+    write_address(t, WRITE_UAR1, WRITE_UAR2, address, enabled | mode);
 }
 
 static void mcr_word(struct traffic *t)
@@ -121,6 +122,9 @@ static void fill_tbf(struct traffic *t)
     unsigned limit = attempt_limit(t->unit.uar1 & UAR1_MODE);
     if (bytes > limit && random_chance(r, 300))
         bytes = limit;
+    /* A frame that can send all that TBF holds. */
+    if (random_chance(r, t->habits.turn))
+        length = bytes = ATTEMPTS_MODE_1;
     if (bytes > TBF_CAPACITY - 1)
         bytes = TBF_CAPACITY - 1 + random_below(r, 3);
     emit_write(t, WRITE_TBF, length);
@@ -185,6 +189,26 @@ void host_refill(struct traffic *t)
         emit_write(t, WRITE_TBF, random_below(&t->random, 256));
     if (random_chance(&t->random, 300))
         emit_read(t, READ_RCR);
+}
+
+/* Some bytes, or one more than TBF has room for. */
+void host_top_up(struct traffic *t)
+{
+    struct random *r = &t->random;
+    uint32_t n = random_chance(r, 500) ? 1 + random_below(r, 6) : TBF_CAPACITY + 1u - t->unit.tbf.count;
+    for (; n > 0; n--)
+        emit_write(t, WRITE_TBF, random_below(r, 256));
+    if (random_chance(r, 300))
+        emit_read(t, READ_STR);
+}
+
+/* Some bytes, or one more than RBF has. */
+void host_read_some(struct traffic *t)
+{
+    struct random *r = &t->random;
+    uint32_t n = random_chance(r, 500) ? 1 + random_below(r, 6) : t->unit.rbf.count + 1u;
+    for (; n > 0; n--)
+        emit_read(t, READ_RBF);
 }
 
 static void requests(struct traffic *t)

@@ -152,6 +152,19 @@ static bool unit_wants_data(const struct traffic *t)
     return f->field >= FIELD_LENGTH && f->sending && t->unit.tbf.count == 0;
 }
 
+/* Bytes leave TBF, or come into RBF, while the frame goes on. */
+static bool unit_sends_tbf(const struct traffic *t)
+{
+    const struct frame *f = &t->unit.frame;
+    return f->field >= FIELD_LENGTH && f->sending && (f->master || f->begun);
+}
+
+static bool unit_receives(const struct traffic *t)
+{
+    const struct frame *f = &t->unit.frame;
+    return f->field == FIELD_DATA && !f->sending;
+}
+
 /* The unit has accepted 0H, 4H, 5H or 6H. */
 static bool unit_answers(const struct traffic *t)
 {
@@ -165,7 +178,12 @@ static void timely_words(struct traffic *t, struct line *l)
     struct random *r = &t->random;
     if (unit_wants_data(t) && random_chance(r, l->refill))
         host_refill(t);
-    if (in_acknowledge(l) && random_chance(r, 40))
+    if (unit_sends_tbf(t) && random_chance(r, l->turn))
+        host_top_up(t);
+    if (unit_receives(t) && random_chance(r, l->turn))
+        host_read_some(t);
+    /* A reading master's NAK of the length shows in the code between P and A alone. */
+    if (in_acknowledge(l) && random_chance(r, l->field == FIELD_LENGTH ? 200 : 40))
         emit_read(t, READ_RCR);
     if (in_acknowledge(l) && random_chance(r, l->timely))
         host_after_judgement(t);

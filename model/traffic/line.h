@@ -20,7 +20,7 @@ struct line {
     bool slave_answers;      /* a simulated slave takes part */
     bool meddler;            /* somebody drives 0 in every A slot */
     unsigned slave_length;
-    uint32_t nak, bad_data, host, refill, timely, leave;   /* chances in thousandths */
+    uint32_t nak, bad_data, host, refill, timely, leave, turn;   /* chances in thousandths */
     uint32_t spoiled;        /* first attempts that get NAK or bad parity, so that the last one can be the right one */
     uint32_t cut_at, noise_at, slots;
     bool cut_by_start;

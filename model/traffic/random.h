@@ -9,9 +9,11 @@ struct random {
     uint64_t state;
 };
 
+/* Another factor than the step below: with the same one, each seed's numbers would be those of the seed before, moved
+   by one, and two lists could fall into step. */
 static inline struct random random_seeded(uint64_t seed)
 {
-    return (struct random){seed * 0x9E3779B97F4A7C15u + 0x1234567u};
+    return (struct random){seed * 0xD1342543DE82EF95u + 0x1234567u};
 }
 
 /* splitmix64, whose high half passes as random for traffic. */

@@ -59,7 +59,20 @@ unsigned pool_address(struct traffic *t)
     }
 }
 
+/* Bytes come and go as fast as the line has them. */
+static void turn_buffers(struct habits *h)
+{
+    h->turn = 700;
+    h->request = 400;
+    h->offer = 700;
+    h->enable = h->empty_rbf = h->own_slave = 900;
+    h->contend = 100;
+}
+
 /* Habits in which one part of the rules is met more often than mixed traffic meets it. */
+#define THEMES 9
+#define THEME_TURNING 6
+
 static void draw_theme(struct habits *h, uint32_t theme)
 {
     h->quiet = false;
@@ -95,6 +108,9 @@ static void draw_theme(struct habits *h, uint32_t theme)
         h->enable = 500;
         h->cut = 200;
         break;
+    case THEME_TURNING:
+        turn_buffers(h);
+        break;
     }
 }
 
@@ -116,9 +132,9 @@ static void draw_habits(struct traffic *t)
     t->habits.own_slave = random_pick(r, often);
     t->habits.cut = random_pick(r, cuts);
     t->habits.read_request = 400;
-    t->habits.ask = 0;
+    t->habits.ask = t->habits.turn = 0;
     t->habits.spoil = t->habits.meddle = 40;
-    draw_theme(&t->habits, random_below(r, 8));
+    draw_theme(&t->habits, random_below(r, THEMES));
 }
 
 void traffic_begin(struct traffic *t, uint64_t seed, uint32_t *words, uint32_t *answers, size_t capacity)
@@ -158,11 +174,9 @@ static void formless_words(struct traffic *t)
     }
 }
 
-void traffic_make(struct traffic *t, uint64_t seed, uint32_t *words, uint32_t *answers, size_t capacity)
+static void fill_list(struct traffic *t, bool formless, uint32_t new_habits)
 {
-    traffic_begin(t, seed, words, answers, capacity);
     struct random *r = &t->random;
-    bool formless = random_chance(r, 30);
     while (!traffic_full(t)) {
         /* The host's words meet a line that is idle, and one that is not. */
         if (random_chance(r, 500) && !random_chance(r, t->habits.no_idle))
@@ -178,8 +192,23 @@ void traffic_make(struct traffic *t, uint64_t seed, uint32_t *words, uint32_t *a
             outside_frames(t);
         if (t->unit.marq && request_holds_back(&t->unit) && random_chance(r, 200))
             host_empty_rbf(t);
-        if (random_chance(r, 10))
+        if (random_chance(r, new_habits))
             draw_habits(t);
         line_frame(t);
     }
+}
+
+void traffic_make(struct traffic *t, uint64_t seed, uint32_t *words, uint32_t *answers, size_t capacity)
+{
+    traffic_begin(t, seed, words, answers, capacity);
+    bool formless = random_chance(&t->random, 30);
+    fill_list(t, formless, 10);
+}
+
+void traffic_make_turning(struct traffic *t, uint64_t seed, uint32_t *words, uint32_t *answers, size_t capacity)
+{
+    traffic_begin(t, seed, words, answers, capacity);
+    t->habits.reset = 0;
+    draw_theme(&t->habits, THEME_TURNING);
+    fill_list(t, false, 0);
 }

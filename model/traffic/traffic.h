@@ -23,6 +23,7 @@ struct habits {
     uint32_t spoil;          /* a frame's first attempts all fail */
     uint32_t meddle;         /* somebody drives 0 in every A slot of a frame */
     uint32_t no_idle;        /* no idle slot before the next start */
+    uint32_t turn;           /* a long frame that nothing disturbs, with bytes written and read meanwhile */
     bool quiet;              /* no flag is set for long, so that UAR can be written */
 };
 
@@ -52,6 +53,9 @@ struct traffic {
 /* Fills words and answers with capacity places, from a reset unit. The same seed and capacity give the same list. */
 void traffic_make(struct traffic *t, uint64_t seed, uint32_t *words, uint32_t *answers, size_t capacity);
 
+/* The same with long frames throughout and hardly a reset, so that the buffers are gone through many times. */
+void traffic_make_turning(struct traffic *t, uint64_t seed, uint32_t *words, uint32_t *answers, size_t capacity);
+
 /* Ready for words after a reset, or after words that another part has made; habits are drawn from the seed. */
 void traffic_begin(struct traffic *t, uint64_t seed, uint32_t *words, uint32_t *answers, size_t capacity);
 
@@ -70,14 +74,16 @@ void emit_read(struct traffic *t, unsigned reg);
 unsigned pool_address(struct traffic *t);
 
 /* The host: one word at any place, one that would turn a judgement just made, own address and mode written, slave data
-   offered, RBF read until it is empty, TBF bytes for a sender that wants data, all registers read, and its work
-   between frames. */
+   offered, RBF read until it is empty, TBF bytes for a sender that wants data, TBF bytes for one that has some, a few
+   bytes of RBF read, all registers read, and its work between frames. */
 void host_word(struct traffic *t);
 void host_after_judgement(struct traffic *t);
 void host_turn_uar(struct traffic *t);
 void host_offer(struct traffic *t);
 void host_empty_rbf(struct traffic *t);
 void host_refill(struct traffic *t);
+void host_top_up(struct traffic *t);
+void host_read_some(struct traffic *t);
 void host_look(struct traffic *t);
 void host_between_frames(struct traffic *t);
 
