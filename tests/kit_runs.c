@@ -13,6 +13,8 @@ enum {
     /* what stands in answers and states before a call, so that every write is seen */
     UNTOUCHED = 0xA5,
     SPARE = 16,
+    TURNING_SEED = 257,
+    TURNING_WORDS = 3000,
 };
 
 /* A list as bytes, and the answers of one call over all of it. */
@@ -53,6 +55,29 @@ static bool same_in_pieces(const struct list *list, uint32_t longest, uint64_t s
         at += piece;
     }
     return holds && memcmp(answers, list->answers, sizeof answers) == 0;
+}
+
+/* A list of the traffic that goes three times round both buffers, cut into two calls at each of its words. */
+static bool same_wherever_cut(void)
+{
+    static uint32_t words[TURNING_WORDS], expected[TURNING_WORDS];
+    static uint8_t in[TURNING_WORDS * 4], out[TURNING_WORDS * 4], answers[TURNING_WORDS * 4];
+    struct traffic traffic;
+    traffic_make_turning(&traffic, TURNING_SEED, words, expected, TURNING_WORDS);
+    for (size_t i = 0; i < TURNING_WORDS; i++) {
+        iebus_put_word(in + i * 4, words[i]);
+        iebus_put_word(answers + i * 4, expected[i]);
+    }
+    bool holds = true;
+    for (size_t cut = 0; cut <= sizeof in; cut += 4) {
+        uint8_t state[IEBUS_STATE_BYTES];
+        memset(out, UNTOUCHED, sizeof out);
+        holds &= iebus_unit_reset(state, sizeof state) == 0
+                 && iebus_unit_run(state, sizeof state, in, cut, out, cut) == 0
+                 && iebus_unit_run(state, sizeof state, in + cut, sizeof in - cut, out + cut, sizeof out - cut) == 0
+                 && memcmp(out, answers, sizeof answers) == 0;
+    }
+    return holds;
 }
 
 static bool word_by_word(const struct list *list, uint8_t *state, size_t from, size_t to)
@@ -183,6 +208,7 @@ int main(void)
     check("1,000,000 words of traffic in five calls of iebus_run give the second model's answers", made);
     check("the same lists in pieces of up to 3 words through iebus_unit_run", pieces_of(3));
     check("in pieces of up to 1,000 words", pieces_of(1000));
+    check("a list of 3,000 words that goes round both buffers, cut in two at every place", same_wherever_cut());
     check("two units in turns, word by word", apart_from_each_other());
     check("a copied state goes on", copied_state_goes_on());
     check("a used state is reset", used_state_is_reset());
