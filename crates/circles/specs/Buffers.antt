@@ -1,6 +1,7 @@
 -- What a word does to TBF and RBF, by the calls that it makes on each.
 use Prim.Native.Nat.{ℕ}
 use mathlib.Core.List.{List, [], _∷_}
+use mathlib.Core.Path.{_≡_}
 use lib.Dec.{eqb}
 use Rattle.line.specs.Choice.{pick}
 use Rattle.line.specs.Numbers.{rbfBytes, regRbf, regTbf, tbfBytes}
@@ -14,7 +15,7 @@ use Rattle.rules.specs.Step.{clashes}
 use Rattle.rules.specs.declared.state.Act.{Act}
 use Rattle.rules.specs.declared.state.Act.the-variants.{Nothing, Take, Empty, Header, Byte}
 use Rattle.circles.specs.Calls.{ByCalls, Call, push, take, empty, turns}
-use Rattle.circles.specs.Circle.{Buffer}
+use Rattle.circles.specs.Circle.{Buffer, listOf}
 
 -- ---- the two buffers
 
@@ -95,3 +96,10 @@ callsAs host s w = toldCalls (toldOf (s .core .regs) (s .tbf) (s .rbf) w) (regis
 -- any word, in the state before it
 unfoldable pub wordCalls : State → ℕ → Calls
 wordCalls s w = callsAs (classOf w) s w
+
+-- ---- the rules
+
+-- "Read as a list, oldest first, the buffer equals the old one": both are those of a state
+pub record ReadAs (b : Buffers) (s : State) : Type 0 where
+  pub tbf : listOf tbfBytes (b .tbf) ≡ s .tbf
+  pub rbf : listOf rbfBytes (b .rbf) ≡ s .rbf
