@@ -57,7 +57,8 @@ static bool same_in_pieces(const struct list *list, uint32_t longest, uint64_t s
     return holds && memcmp(answers, list->answers, sizeof answers) == 0;
 }
 
-/* A list of the traffic that goes three times round both buffers, cut into two calls at each of its words. */
+/* A list of the traffic that takes three times as many bytes out of each buffer as it has places, cut into two calls at
+   each of its words. */
 static bool same_wherever_cut(void)
 {
     static uint32_t words[TURNING_WORDS], expected[TURNING_WORDS];
@@ -208,7 +209,7 @@ int main(void)
     check("1,000,000 words of traffic in five calls of iebus_run give the second model's answers", made);
     check("the same lists in pieces of up to 3 words through iebus_unit_run", pieces_of(3));
     check("in pieces of up to 1,000 words", pieces_of(1000));
-    check("a list of 3,000 words that goes round both buffers, cut in two at every place", same_wherever_cut());
+    check("a list of 3,000 words that fills and empties both buffers, cut in two at every place", same_wherever_cut());
     check("two units in turns, word by word", apart_from_each_other());
     check("a copied state goes on", copied_state_goes_on());
     check("a used state is reset", used_state_is_reset());

@@ -7,17 +7,13 @@ use mathlib.Core.Logic.{_⊎_, inl, inr, ⊎-elim}
 use mathlib.Core.Path.{_≡_, refl, sym, ap, ap₂, _∙_}
 use borrow.Author.Tests.{eqb-false, eqb-true, le-ltb, lt-ltb, ltb-false, ltb-true}
 use lib.Dec.{eqb, ltb}
-use lib.ListN.{length, getD, set, drop, length-set}
+use lib.ListN.{length, getD, set, drop}
 use lib.Seq.{getD-set-same, getD-set-other}
 use Rattle.line.specs.Choice.{pick}
-use Rattle.line.specs.Numbers.{rbfBytes, tbfBytes}
-use Rattle.circles.specs.Buffers.{sentBy, storedBy}
-use Rattle.circles.specs.Calls.{fewer, popped, pushed, put, turns}
+use Rattle.circles.specs.Calls.{fewer, popped, pushed, put}
 use Rattle.circles.specs.Circle.{Buffer, circleOf, heldOf, items, listOf, startOf, wrap}
 use Rattle.circles.specs.declared.Span.{Span}
-use Rattle.rules.specs.State.{pushOf, rbfAfter, tbfAfter}
-use Rattle.rules.specs.declared.state.Act.{Act}
-use Rattle.rules.specs.declared.state.Act.the-variants.{Nothing, Take, Empty, Header, Byte}
+use Rattle.rules.specs.State.{pushOf}
 use Rattle.rules.proofs.Calm.{pick-no}
 
 -- ---- places
@@ -155,14 +151,6 @@ push-list n b x l = by (ltb (b .span .count) n) refl
         let full : length (listOf n b) ≡ n = items-length n (b .bytes) _ _ ∙ held-full n _ (ltb-false _ n e) in
         sym (pick-no (ltb (length (listOf n b)) n) _ _ (ap (λ (k : ℕ). ltb k n) full ∙ le-ltb n n (omega arith)))
 
-pub push-length : (n : ℕ) (b : Buffer) (x : ℕ) → length (pushed n b x .bytes) ≡ length (b .bytes)
-unfolding pushed
-push-length n b x = by (ltb (b .span .count) n)
-  where
-    by : (t : Bool) → length (pick t (put n b x) b .bytes) ≡ length (b .bytes)
-    by true = length-set (b .bytes) _ x
-    by false = refl
-
 pub push-alike : (n x : ℕ) {a b : Buffer} → a ≡ b → pushed n a x ≡ pushed n b x
 push-alike n x e = ap (λ (c : Buffer). pushed n c x) e
 
@@ -177,36 +165,3 @@ pop-list n bytes span = by (eqb (heldOf n (span .count)) 0) refl
     by false e =
         circle-pop n bytes (span .first) (span .count) (heldOf n (span .count)) refl
         (omega (arith, eqb-false (heldOf n (span .count)) 0 e))
-
--- ---- what a slot does to them
-
-pub sent-list : (act : Act) (b : Buffer)
-    → listOf tbfBytes (turns tbfBytes b (sentBy act)) ≡ tbfAfter act (listOf tbfBytes b)
-unfolding sentBy tbfAfter circleOf items
-sent-list Nothing b = refl
-sent-list Take b = pop-list tbfBytes (b .bytes) (b .span)
-sent-list Empty b = refl
-sent-list (Header x y z) b = refl
-sent-list (Byte x) b = refl
-
-pub stored-length : (act : Act) (b : Buffer) → length (turns rbfBytes b (storedBy act) .bytes) ≡ length (b .bytes)
-unfolding storedBy
-stored-length Nothing b = refl
-stored-length Take b = refl
-stored-length Empty b = refl
-stored-length (Header x y z) b = push-length _ _ z ∙ push-length _ _ y ∙ push-length _ b x
-stored-length (Byte x) b = push-length _ b x
-
-pub stored-list : (act : Act) (b : Buffer) → length (b .bytes) ≡ rbfBytes
-    → listOf rbfBytes (turns rbfBytes b (storedBy act)) ≡ rbfAfter act (listOf rbfBytes b)
-unfolding storedBy rbfAfter
-stored-list Nothing b full = refl
-stored-list Take b full = refl
-stored-list Empty b full = refl
-stored-list (Header x y z) b full =
-    let one = push-length rbfBytes b x ∙ full in
-    let two = push-length rbfBytes (pushed rbfBytes b x) y ∙ one in
-    push-list rbfBytes (pushed rbfBytes (pushed rbfBytes b x) y) z two
-    ∙ ap (λ (bytes : List ℕ). pushOf rbfBytes bytes z) (push-list rbfBytes (pushed rbfBytes b x) y one
-    ∙ ap (λ (bytes : List ℕ). pushOf rbfBytes bytes y) (push-list rbfBytes b x full))
-stored-list (Byte x) b full = push-list rbfBytes b x full

@@ -1,4 +1,4 @@
--- Where the bytes of a circle lie; that no call moves one of them, and no word.
+-- Where the bytes of a circle lie, and that neither push, take nor emptying moves one.
 use Prim.Native.Nat.{ℕ, zero, suc, _+_, _-_, _≤_, _<_}
 use native.Mathlib.Omega.{arith}
 use mathlib.Core.List.{List}
@@ -144,6 +144,18 @@ three-unmoved room b x y z =
     (push-unmoved room d z) (omega arith) (push-grows room d z)
 
 -- ---- what is written
+
+-- by a take, no place of the array; by a push, one
+pub take-writes-none : (room : ℕ) (b : Buffer) → turned room b take .bytes ≡ b .bytes
+take-writes-none room b = refl
+
+pub push-writes-one : (room : ℕ) (b : Buffer) (byte place : ℕ) → (place ≡ placeIn room b (heldIn room b) → ⊥)
+    → getD (turned room b (push byte) .bytes) place 0 ≡ getD (b .bytes) place 0
+unfolding pushed
+push-writes-one room b byte place other =
+    pick-ind (λ (after : Buffer). getD (after .bytes) place 0 ≡ getD (b .bytes) place 0) (ltb (b .span .count) room) _ _
+    (λ e. let held = held-same room (b .span .count) (omega (arith, ltb-true _ room e)) in
+    getD-set-other (b .bytes) _ place byte 0 (λ p. other (p ∙ ap (placeIn room b) (sym held)))) (λ e. refl)
 
 -- where none came in, no place of the array
 pub none-written : {room : ℕ} {b after : Buffer} → Unmoved room b after → heldIn room after ≤ heldIn room b

@@ -2,7 +2,7 @@
 -- the lists.
 use Prim.Native.Nat.{ℕ, _/_, _%_}
 use mathlib.Core.Bool.{Bool, true, false, _&&_}
-use mathlib.Core.List.{List}
+use mathlib.Core.List.{List, [], _∷_}
 use mathlib.Core.Path.{_≡_, refl, ap, _∙_}
 use lib.Dec.{eqb}
 use lib.ListN.{drop, length}
@@ -15,13 +15,37 @@ use Rattle.rules.specs.Registers.{Told, wrote, restarted, gave, denied, readRef
 use Rattle.rules.specs.Registers.{valueOf, writeDone, writeRefusal, writeTold}
 use Rattle.rules.specs.State.{State, isEmpty, pushOf, rbfAfter, tbfAfter}
 use Rattle.rules.specs.Step.{actedBy, actedOn, clashes, slotOn, stepAs, stepOf, toldOn}
+use Rattle.rules.specs.declared.state.Act.{Act}
+use Rattle.rules.specs.declared.state.Act.the-variants.{Nothing, Take, Empty, Header, Byte}
 use Rattle.rules.specs.declared.state.Acted.{Acted}
 use Rattle.rules.specs.declared.state.Registers.{Registers}
 use Rattle.rules.proofs.Calm.{pick-ind}
-use Rattle.circles.specs.Buffers.{Buffers, ReadAs, acting, called, callsAs, slotCalls, slotTaken}
-use Rattle.circles.specs.Buffers.{toldCalls, uncalled, wordCalls}
-use Rattle.circles.specs.Circle.{circleOf, items}
-use Rattle.circles.proofs.Circle.{pop-list, push-list, sent-list, stored-list}
+use Rattle.circles.specs.Buffers.{Buffers, ReadAs, acting, afterCalls, callsAs, slotCalls, slotTaken}
+use Rattle.circles.specs.Buffers.{noCalls, sentBy, storedBy, toldCalls, wordCalls}
+use Rattle.circles.specs.Calls.{push, queued, turns}
+use Rattle.circles.specs.Circle.{Buffer, circleOf, items, listOf}
+use Rattle.circles.proofs.Circle.{pop-list, push-list}
+use Rattle.circles.proofs.Turns.{any-calls}
+
+-- ---- what a slot does
+
+pub sent-list : (act : Act) (b : Buffer)
+    → listOf tbfBytes (turns tbfBytes b (sentBy act)) ≡ tbfAfter act (listOf tbfBytes b)
+unfolding sentBy tbfAfter circleOf items
+sent-list Nothing b = refl
+sent-list Take b = pop-list tbfBytes (b .bytes) (b .span)
+sent-list Empty b = refl
+sent-list (Header x y z) b = refl
+sent-list (Byte x) b = refl
+
+pub stored-list : (act : Act) (b : Buffer) → length (b .bytes) ≡ rbfBytes
+    → listOf rbfBytes (turns rbfBytes b (storedBy act)) ≡ rbfAfter act (listOf rbfBytes b)
+unfolding storedBy rbfAfter queued
+stored-list Nothing b full = refl
+stored-list Take b full = refl
+stored-list Empty b full = refl
+stored-list (Header x y z) b full = any-calls rbfBytes b (push x ∷ push y ∷ push z ∷ []) full .after-all
+stored-list (Byte x) b full = any-calls rbfBytes b (push x ∷ []) full .after-all
 
 -- arrays of 33 and 40 places, which are read as the buffers of a state
 record Read (b : Buffers) (s : State) : Type 0 where
@@ -32,7 +56,7 @@ record Read (b : Buffers) (s : State) : Type 0 where
 module _ (b : Buffers) (s : State) (h : Read b s) where
   -- ---- slots
 
-  acted-read : (a : Acted) → ReadAs (called (acting (a .act)) b) (actedOn s a)
+  acted-read : (a : Acted) → ReadAs (afterCalls (acting (a .act)) b) (actedOn s a)
   acted-read a =
       record {
         tbf = sent-list (a .act) (b .tbf) ∙ ap (tbfAfter (a .act)) (h .lists .tbf);
@@ -40,11 +64,11 @@ module _ (b : Buffers) (s : State) (h : Read b s) where
       }
 
   level-read : (clash bit : Bool)
-      → ReadAs (called (pick clash uncalled (slotTaken s (Level bit))) b) (pick clash s (actedBy s (Level bit)))
+      → ReadAs (afterCalls (pick clash noCalls (slotTaken s (Level bit))) b) (pick clash s (actedBy s (Level bit)))
   level-read true bit = h .lists
   level-read false bit = acted-read _
 
-  slot-read : (c : Slot) → ReadAs (called (slotCalls s c) b) (slotOn s c)
+  slot-read : (c : Slot) → ReadAs (afterCalls (slotCalls s c) b) (slotOn s c)
   unfolding slotCalls slotOn
   slot-read (Level bit) = level-read (clashes s bit) bit
   slot-read Start = acted-read _
@@ -55,7 +79,7 @@ module _ (b : Buffers) (s : State) (h : Read b s) where
 
   module _ (register v : ℕ) where
     unfoldable Fits : Told → Type 0
-    Fits t = ReadAs (called (toldCalls t register v) b) (toldOn s t)
+    Fits t = ReadAs (afterCalls (toldCalls t register v) b) (toldOn s t)
 
     pushed-fits : (r : Registers) → eqb register regTbf ≡ true → Fits (wrote r (pushOf tbfBytes (s .tbf) v))
     unfolding Fits
@@ -121,13 +145,13 @@ module _ (b : Buffers) (s : State) (h : Read b s) where
 -- ---- any word
 
 pub word-read : (s : State) (w : ℕ) (b : Buffers) → length (b .tbf .bytes) ≡ tbfBytes
-    → length (b .rbf .bytes) ≡ rbfBytes → ReadAs b s → ReadAs (called (wordCalls s w) b) (stepOf s w)
+    → length (b .rbf .bytes) ≡ rbfBytes → ReadAs b s → ReadAs (afterCalls (wordCalls s w) b) (stepOf s w)
 unfolding wordCalls stepOf Fits
 word-read s w b sent stored lists = by (classOf w)
   where
     h : Read b s
     h = record { sent = sent; stored = stored; lists = lists }
 
-    by : (class : Class) → ReadAs (called (callsAs class s w) b) (stepAs class s w)
+    by : (class : Class) → ReadAs (afterCalls (callsAs class s w) b) (stepAs class s w)
     by (slot c) = slot-read b s h c
     by host = told-fits b s h w

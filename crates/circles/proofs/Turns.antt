@@ -4,10 +4,17 @@ use native.Mathlib.Omega.{arith}
 use mathlib.Core.List.{List, [], _∷_, map}
 use mathlib.Core.Path.{_≡_, refl, ap, _∙_}
 use lib.ListN.{length}
-use Rattle.circles.specs.Calls.{AsQueue, Call, push, take, empty, afterEach, queued, turned, vacant}
+use Rattle.circles.specs.Calls.{AsQueue, Call, push, take, empty, afterAll, afterEach, queued, turned}
+use Rattle.circles.specs.Calls.{turns, vacant}
 use Rattle.circles.specs.Circle.{Buffer, buffer, circleOf, items, listOf}
 use Rattle.circles.proofs.Circle.{held-same, pop-list, push-list}
 use Rattle.circles.proofs.Places.{call-unmoved}
+
+pub calls-length : (room : ℕ) (calls : List Call) (b : Buffer)
+    → length (turns room b calls .bytes) ≡ length (b .bytes)
+calls-length room [] b = refl
+calls-length room (call ∷ calls) b =
+    calls-length room calls (turned room b call) ∙ call-unmoved room b call .as-long
 
 -- one call
 one-call : (room : ℕ) (b : Buffer) (call : Call) → length (b .bytes) ≡ room
@@ -16,6 +23,13 @@ unfolding queued circleOf items
 one-call room b (push byte) full = push-list room b byte full
 one-call room b take full = pop-list room (b .bytes) (b .span)
 one-call room b empty full = ap (items room (b .bytes) _) (held-same room 0 (omega arith))
+
+after-all : (room : ℕ) (calls : List Call) (b : Buffer) → length (b .bytes) ≡ room
+    → listOf room (turns room b calls) ≡ afterAll (queued room) (listOf room b) calls
+after-all room [] b full = refl
+after-all room (call ∷ calls) b full =
+    after-all room calls (turned room b call) (call-unmoved room b call .as-long ∙ full)
+    ∙ ap (λ (queue : List ℕ). afterAll (queued room) queue calls) (one-call room b call full)
 
 each-call : (room : ℕ) (calls : List Call) (b : Buffer) → length (b .bytes) ≡ room
     → map (listOf room) (afterEach (turned room) b calls) ≡ afterEach (queued room) (listOf room b) calls
@@ -27,9 +41,10 @@ each-call room (call ∷ calls) b full =
     (each-call room calls (turned room b call) (call-unmoved room b call .as-long ∙ full)))
 
 -- any calls, from any span of any array
-pub any-calls : (b : Buffer) (calls : List Call)
-    → AsQueue (length (b .bytes)) b (listOf (length (b .bytes)) b) calls
-any-calls b calls = record { after-each = each-call (length (b .bytes)) calls b refl }
+pub any-calls : (room : ℕ) (b : Buffer) (calls : List Call) → length (b .bytes) ≡ room
+    → AsQueue room b (listOf room b) calls
+any-calls room b calls full =
+    record { after-each = each-call room calls b full; after-all = after-all room calls b full }
 
 -- .. and from an empty one
 pub from-empty : (bytes : List ℕ) (calls : List Call) → AsQueue (length bytes) (buffer bytes vacant) [] calls
@@ -37,4 +52,4 @@ unfolding circleOf items
 from-empty bytes calls =
     let none : listOf (length bytes) (buffer bytes vacant) ≡ [] = ap (items (length bytes) bytes _) (held-same
     (length bytes) 0 (omega arith)) in
-    rw (← none) (any-calls (buffer bytes vacant) calls)
+    rw (← none) (any-calls (length bytes) (buffer bytes vacant) calls refl)

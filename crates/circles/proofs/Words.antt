@@ -1,4 +1,4 @@
--- What a word does to TBF and RBF moves no byte of them.
+-- What a word does to TBF and RBF: its calls keep them queues, and move no byte of them.
 use Prim.Native.Nat.{ℕ}
 use mathlib.Core.Path.{refl}
 use lib.Dec.{eqb}
@@ -12,11 +12,12 @@ use Rattle.rules.specs.Step.{clashes}
 use Rattle.rules.specs.declared.state.Act.{Act}
 use Rattle.rules.specs.declared.state.Act.the-variants.{Nothing, Take, Empty, Header, Byte}
 use Rattle.rules.proofs.Calm.{pick-ind}
-use Rattle.circles.specs.Buffers.{Buffers, Calls, InCircles, acting, called, callsAs, drawn, filled, sentBy}
-use Rattle.circles.specs.Buffers.{slotCalls, slotTaken, storedBy, toldCalls, uncalled, wordCalls}
+use Rattle.circles.specs.Buffers.{Buffers, Calls, InCircles, acting, afterCalls, callsAs, drawn, filled, sentBy}
+use Rattle.circles.specs.Buffers.{slotCalls, slotTaken, storedBy, toldCalls, noCalls, wordCalls}
 use Rattle.circles.specs.Calls.{push, take, empty, turns}
 use Rattle.circles.specs.Circle.{Buffer, Unmoved}
 use Rattle.circles.proofs.Places.{call-unmoved, same-unmoved, three-unmoved}
+use Rattle.circles.proofs.Turns.{any-calls}
 
 -- ---- slots
 
@@ -43,7 +44,7 @@ record Still (c : Calls) : Type 0 where
   tbf : (b : Buffer) → Unmoved tbfBytes b (turns tbfBytes b (c .tbf))
   rbf : (b : Buffer) → Unmoved rbfBytes b (turns rbfBytes b (c .rbf))
 
-still : Still uncalled
+still : Still noCalls
 still = record { tbf = same-unmoved tbfBytes; rbf = same-unmoved rbfBytes }
 
 acting-still : (act : Act) → Still (acting act)
@@ -52,19 +53,19 @@ acting-still act = record { tbf = sent-unmoved act; rbf = stored-unmoved act }
 slot-still : (s : State) (c : Slot) → Still (slotCalls s c)
 unfolding slotCalls
 slot-still s (Level bit) =
-    pick-ind Still (clashes s bit) uncalled (slotTaken s (Level bit)) (λ e. still) (λ e. acting-still _)
+    pick-ind Still (clashes s bit) noCalls (slotTaken s (Level bit)) (λ e. still) (λ e. acting-still _)
 slot-still s Start = acting-still _
 slot-still s Idle = acting-still _
 slot-still s Stray = still
 
 told-still : (t : Told) (register v : ℕ) → Still (toldCalls t register v)
 told-still (wrote r tbf) register v =
-    pick-ind Still (eqb register regTbf) (filled v) uncalled
+    pick-ind Still (eqb register regTbf) (filled v) noCalls
     (λ e. record { tbf = λ b. call-unmoved tbfBytes b (push v); rbf = same-unmoved rbfBytes }) (λ e. still)
 told-still restarted register v =
     record { tbf = λ b. call-unmoved tbfBytes b empty; rbf = λ b. call-unmoved rbfBytes b empty }
 told-still (gave rbf value) register v =
-    pick-ind Still (eqb register regRbf) drawn uncalled
+    pick-ind Still (eqb register regRbf) drawn noCalls
     (λ e. record { tbf = same-unmoved tbfBytes; rbf = λ b. call-unmoved rbfBytes b take }) (λ e. still)
 told-still (denied n) register v = still
 
@@ -77,10 +78,9 @@ word-still s w = by (classOf w)
     by host = told-still (toldOf (s .core .regs) (s .tbf) (s .rbf) w) (registerOf w) (valueOf w)
 
 -- any word, in every state, on any arrays with any spans
-pub word-circles : (s : State) (w : ℕ) (b : Buffers) → InCircles b (called (wordCalls s w) b)
+pub word-circles : (s : State) (w : ℕ) (b : Buffers) → InCircles (wordCalls s w) b (afterCalls (wordCalls s w) b)
 word-circles s w b =
-    let calls = wordCalls s w in
     record {
-      tbf = record { calls = calls .tbf; called = refl; unmoved = word-still s w .tbf (b .tbf) };
-      rbf = record { calls = calls .rbf; called = refl; unmoved = word-still s w .rbf (b .rbf) };
+      tbf = record { made = refl; as-queue = any-calls tbfBytes (b .tbf) _; unmoved = word-still s w .tbf (b .tbf) };
+      rbf = record { made = refl; as-queue = any-calls rbfBytes (b .rbf) _; unmoved = word-still s w .rbf (b .rbf) };
     }

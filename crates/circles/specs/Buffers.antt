@@ -28,18 +28,18 @@ pub record Calls : Type 0 where
   pub tbf : List Call
   pub rbf : List Call
 
-abbrev pub called : Calls → Buffers → Buffers
-called c b = record { tbf = turns tbfBytes (b .tbf) (c .tbf); rbf = turns rbfBytes (b .rbf) (c .rbf) }
+abbrev pub afterCalls : Calls → Buffers → Buffers
+afterCalls c b = record { tbf = turns tbfBytes (b .tbf) (c .tbf); rbf = turns rbfBytes (b .rbf) (c .rbf) }
 
--- both have been changed by calls alone, and no byte of either has been moved
-pub record InCircles (b after : Buffers) : Type 0 where
-  pub tbf : ByCalls tbfBytes (b .tbf) (after .tbf)
-  pub rbf : ByCalls rbfBytes (b .rbf) (after .rbf)
+-- what they have made of both
+pub record InCircles (c : Calls) (b after : Buffers) : Type 0 where
+  pub tbf : ByCalls tbfBytes (b .tbf) (c .tbf) (after .tbf)
+  pub rbf : ByCalls rbfBytes (b .rbf) (c .rbf) (after .rbf)
 
 -- ---- the calls of a word
 
-abbrev pub uncalled : Calls
-uncalled = record { tbf = []; rbf = [] }
+abbrev pub noCalls : Calls
+noCalls = record { tbf = []; rbf = [] }
 
 -- a byte is written to TBF
 abbrev pub filled : ℕ → Calls
@@ -77,17 +77,17 @@ slotTaken s c = acting (onSlot (s .core) c (seenOf (s .tbf) (s .rbf)) .act)
 
 -- a refused slot does nothing
 unfoldable pub slotCalls : State → Slot → Calls
-slotCalls s (Level bit) = pick (clashes s bit) uncalled (slotTaken s (Level bit))
+slotCalls s (Level bit) = pick (clashes s bit) noCalls (slotTaken s (Level bit))
 slotCalls s Start = slotTaken s Start
 slotCalls s Idle = slotTaken s Idle
-slotCalls s Stray = uncalled
+slotCalls s Stray = noCalls
 
 -- host words: what one did, the register that it names, and the value
 abbrev pub toldCalls : Told → ℕ → ℕ → Calls
-toldCalls (wrote r tbf) register v = pick (eqb register regTbf) (filled v) uncalled
+toldCalls (wrote r tbf) register v = pick (eqb register regTbf) (filled v) noCalls
 toldCalls restarted register v = emptied
-toldCalls (gave rbf value) register v = pick (eqb register regRbf) drawn uncalled
-toldCalls (denied n) register v = uncalled
+toldCalls (gave rbf value) register v = pick (eqb register regRbf) drawn noCalls
+toldCalls (denied n) register v = noCalls
 
 abbrev pub callsAs : Class → State → ℕ → Calls
 callsAs (slot c) s w = slotCalls s c

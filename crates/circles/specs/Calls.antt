@@ -3,7 +3,7 @@ use Prim.Native.Nat.{ℕ, _+_, _-_}
 use mathlib.Core.List.{List, [], _∷_, map}
 use mathlib.Core.Path.{_≡_}
 use lib.Dec.{eqb, ltb}
-use lib.ListN.{drop, set}
+use lib.ListN.{drop, length, set}
 use Rattle.line.specs.Choice.{pick}
 use Rattle.rules.specs.State.{pushOf}
 use Rattle.circles.specs.Circle.{Buffer, Unmoved, buffer, heldOf, listOf, placeIn, startOf, wrap}
@@ -47,28 +47,31 @@ turned room b (push byte) = pushed room b byte
 turned room b take = buffer (b .bytes) (popped room (b .span))
 turned room b empty = buffer (b .bytes) vacant
 
--- .. and after several
-abbrev pub turns : ℕ → Buffer → List Call → Buffer
-turns room b [] = b
-turns room b (call ∷ calls) = turns room (turned room b call) calls
-
 -- "the old one": the queue of the rules, after a call
 unfoldable pub queued : ℕ → List ℕ → Call → List ℕ
 queued room bytes (push byte) = pushOf room bytes byte
 queued room bytes take = drop 1 bytes
 queued room bytes empty = []
 
--- "after each call"
+-- "after each call", and after all of them
 unfoldable pub afterEach : {A : Type 0} → (A → Call → A) → A → List Call → List A
 afterEach step a [] = []
 afterEach step a (call ∷ calls) = step a call ∷ afterEach step (step a call) calls
 
+abbrev pub afterAll : {A : Type 0} → (A → Call → A) → A → List Call → A
+afterAll step a [] = a
+afterAll step a (call ∷ calls) = afterAll step (step a call) calls
+
+abbrev pub turns : ℕ → Buffer → List Call → Buffer
+turns room b calls = afterAll (turned room) b calls
+
 -- "Read as a list, oldest first, the buffer equals the old one after each call"
 pub record AsQueue (room : ℕ) (b : Buffer) (queue : List ℕ) (calls : List Call) : Type 0 where
   pub after-each : map (listOf room) (afterEach (turned room) b calls) ≡ afterEach (queued room) queue calls
+  pub after-all : listOf room (turns room b calls) ≡ afterAll (queued room) queue calls
 
--- what a word makes of a buffer: what some calls make of it, and no byte has been moved
-pub record ByCalls (room : ℕ) (b after : Buffer) : Type 0 where
-  pub calls : List Call
-  pub called : after ≡ turns room b calls
+-- what calls have made of a buffer: after each of them it was read as the old queue, and no byte of it was moved
+pub record ByCalls (room : ℕ) (b : Buffer) (calls : List Call) (after : Buffer) : Type 0 where
+  pub made : after ≡ turns room b calls
+  pub as-queue : length (b .bytes) ≡ room → AsQueue room b (listOf room b) calls
   pub unmoved : Unmoved room b after

@@ -6,7 +6,7 @@ use lib.ListN.{length}
 use Rattle.line.specs.Numbers.{rbfBytes, tbfBytes}
 use Rattle.lent.specs.Both.{Loan, buffersIn, gaveIn, loanActed, loanDrawn, loanFilled, loanIn, resetLent}
 use Rattle.lent.specs.Both.{takenIn, writtenIn}
-use Rattle.circles.specs.Buffers.{Buffers, called, emptied, sentBy, storedBy}
+use Rattle.circles.specs.Buffers.{Buffers, afterCalls, emptied, sentBy, storedBy}
 use Rattle.circles.specs.Calls.{popped, pushed, turns}
 use Rattle.circles.specs.Circle.{Buffer, buffer, circleOf, items, listOf}
 use Rattle.circles.specs.declared.Span.{Span}
@@ -14,7 +14,8 @@ use Rattle.lent.specs.declared.step.Lent.{Lent}
 use Rattle.rules.specs.State.{reset}
 use Rattle.rules.specs.declared.state.Acted.{Acted}
 use Rattle.rules.specs.declared.state.Core.{Core}
-use Rattle.circles.proofs.Circle.{pop-list, push-list, sent-list, stored-list}
+use Rattle.circles.proofs.Circle.{pop-list, push-list}
+use Rattle.circles.proofs.Read.{sent-list, stored-list}
 
 -- a unit of such scalars and buffers
 abbrev loanOf : Core → Buffers → Loan
@@ -51,6 +52,6 @@ drawn-state u t r v = rw (pop-list rbfBytes r (u .rbf)) refl
 
 -- a reset
 pub reset-state : (u : Lent) (t r : List ℕ)
-    → loanIn resetLent t r ≡ record { state = reset; buffers = called emptied (buffersIn u t r) }
+    → loanIn resetLent t r ≡ record { state = reset; buffers = afterCalls emptied (buffersIn u t r) }
 unfolding circleOf items
 reset-state u t r = refl

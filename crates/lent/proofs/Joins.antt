@@ -18,7 +18,7 @@ use Rattle.lent.specs.declared.step.Done.{Done}
 use Rattle.lent.specs.declared.step.Lent.{Lent}
 use Rattle.lent.specs.Both.{Loan, gaveIn, loanActed, loanDrawn, loanFilled}
 use Rattle.lent.specs.Both.{loanWritten, refusedIn, slotActed, slotRefusal, takenIn, writtenIn}
-use Rattle.circles.specs.Buffers.{InCircles, called, emptied, slotCalls, wordCalls}
+use Rattle.circles.specs.Buffers.{InCircles, afterCalls, emptied, slotCalls, wordCalls}
 use Rattle.circles.proofs.Words.{word-circles}
 use Rattle.rules.specs.Registers.{readRefusal, readTold, readValue, registerOf, toldOf, valueOf, writeDone}
 use Rattle.rules.specs.Registers.{writeRefusal, writeTold, written}
@@ -57,7 +57,7 @@ unfolding writeDone
 done-tbf l register v tbf = simp tbf
 
 pub done-reset : (l : Loan) (register v : ℕ) → eqb register 0xE ≡ false → eqb register 0x0 && eqb v 0x08 ≡ true
-    → writtenIn (record { state = reset; buffers = called emptied (l .buffers) }) ≡ afterDone l register v
+    → writtenIn (record { state = reset; buffers = afterCalls emptied (l .buffers) }) ≡ afterDone l register v
 unfolding writeDone
 done-reset l register v other again = simp (other, again)
 
@@ -149,7 +149,7 @@ runs {u} {w} {t} {t'} {r} {r'} {a} sent stored word =
       answer = λ ft fr. ap (λ (b : Both). b .answer) (word ft fr);
       whole = λ ft fr. ap (λ (b : Both). leftAs (b .loan .state) (b .answer) (b .loan .buffers)) (word ft fr);
       circles =
-          λ ft fr. subst (λ (b : Both). InCircles (buffersIn u t r) (b .loan .buffers)) (sym (word ft fr))
+          λ ft fr. subst (λ (b : Both). InCircles (wordCalls (stateIn u t r) w) (buffersIn u t r) (b .loan .buffers)) (sym (word ft fr))
           (word-circles (stateIn u t r) w (buffersIn u t r));
     }
 

@@ -11,8 +11,8 @@ use Rattle.line.specs.declared.slot.Slot.{Slot}
 use Rattle.line.specs.declared.slot.Slot.the-variants.{Level, Start, Idle, Stray}
 use Rattle.rules.specs.declared.answer.Answer.{Answer}
 use Rattle.rules.specs.declared.answer.Answer.the-variants.{Given, Refused}
-use Rattle.circles.specs.Buffers.{Buffers, InCircles, acting, called, drawn, filled, sentBy, slotCalls}
-use Rattle.circles.specs.Buffers.{toldCalls, wordCalls}
+use Rattle.circles.specs.Buffers.{Buffers, InCircles, acting, afterCalls, drawn, filled, sentBy}
+use Rattle.circles.specs.Buffers.{slotCalls, toldCalls, wordCalls}
 use Rattle.circles.specs.Calls.{turns, vacant}
 use Rattle.circles.specs.Circle.{buffer, circleOf}
 use Rattle.circles.specs.declared.Span.{Span}
@@ -63,7 +63,7 @@ leftAs s answer b =
 -- scalars and answer are those of the rules; the arrays and their spans are what the word's calls make of them
 unfoldable pub leftBy : Lent → ℕ → List ℕ → List ℕ → Left
 leftBy u w t r =
-    let s = stateIn u t r in leftAs (stepOf s w) (answerOf s w) (called (wordCalls s w) (buffersIn u t r))
+    let s = stateIn u t r in leftAs (stepOf s w) (answerOf s w) (afterCalls (wordCalls s w) (buffersIn u t r))
 
 -- ---- a state with its arrays, and an answer
 
@@ -105,7 +105,7 @@ abbrev pub gaveIn : Loan → ℕ → Both
 gaveIn l value = record { loan = l; answer = Given (Read value (nextDrive (l .state))) }
 
 abbrev pub loanActed : Loan → Acted → Loan
-loanActed l a = record { state = actedOn (l .state) a; buffers = called (acting (a .act)) (l .buffers) }
+loanActed l a = record { state = actedOn (l .state) a; buffers = afterCalls (acting (a .act)) (l .buffers) }
 
 -- a byte more in TBF
 abbrev pub loanFilled : Loan → ℕ → Loan
@@ -113,7 +113,7 @@ loanFilled l v =
     let s = l .state in
     record {
       state = record { core = s .core; tbf = pushOf tbfBytes (s .tbf) v; rbf = s .rbf };
-      buffers = called (filled v) (l .buffers);
+      buffers = afterCalls (filled v) (l .buffers);
     }
 
 -- other registers
@@ -128,14 +128,14 @@ loanDrawn l =
     let s = l .state in
     record {
       state = record { core = s .core; tbf = s .tbf; rbf = drop 1 (s .rbf) };
-      buffers = called drawn (l .buffers);
+      buffers = afterCalls drawn (l .buffers);
     }
 
 abbrev pub afterSlot : Loan → Slot → Both
 afterSlot l c =
     let s = l .state in
     record {
-      loan = record { state = slotOn s c; buffers = called (slotCalls s c) (l .buffers) };
+      loan = record { state = slotOn s c; buffers = afterCalls (slotCalls s c) (l .buffers) };
       answer = slotSaid s (slotOn s c) c;
     }
 
@@ -144,7 +144,7 @@ abbrev pub afterTold : Loan → Told → ℕ → ℕ → Both
 afterTold l t register v =
     let s = l .state in
     record {
-      loan = record { state = toldOn s t; buffers = called (toldCalls t register v) (l .buffers) };
+      loan = record { state = toldOn s t; buffers = afterCalls (toldCalls t register v) (l .buffers) };
       answer = toldSaid (toldOn s t) t;
     }
 
@@ -166,7 +166,7 @@ abbrev pub afterWord : Loan → ℕ → Both
 afterWord l w =
     let s = l .state in
     record {
-      loan = record { state = stepOf s w; buffers = called (wordCalls s w) (l .buffers) };
+      loan = record { state = stepOf s w; buffers = afterCalls (wordCalls s w) (l .buffers) };
       answer = answerOf s w;
     }
 
@@ -251,12 +251,13 @@ Works u w t t' r r' d =
     × (length t ≡ tbfBytes → length r ≡ rbfBytes → bothIn d t' r' ≡ afterWord (loanIn u t r) w)
 
 -- the buffers after it have as many bytes as before; and where they are lent with all their bytes, state and answer
--- are those of the rules, all that is left is that of the definition, each place of the arrays included, and no byte
--- in them has been moved
+-- are those of the rules, all that is left is that of the definition, each place of the arrays included, and this is
+-- what the word's calls make of circles
 pub record Runs (u : Lent) (w : ℕ) (t t' r r' : List ℕ) (a : Answered) : Type 0 where
   pub tbf-kept : length t' ≡ length t
   pub rbf-kept : length r' ≡ length r
   pub state : length t ≡ tbfBytes → length r ≡ rbfBytes → stateIn (a .lent) t' r' ≡ stepOf (stateIn u t r) w
   pub answer : length t ≡ tbfBytes → length r ≡ rbfBytes → a .answer ≡ answerOf (stateIn u t r) w
   pub whole : length t ≡ tbfBytes → length r ≡ rbfBytes → leftIn a t' r' ≡ leftBy u w t r
-  pub circles : length t ≡ tbfBytes → length r ≡ rbfBytes → InCircles (buffersIn u t r) (buffersIn (a .lent) t' r')
+  pub circles : length t ≡ tbfBytes → length r ≡ rbfBytes
+      → InCircles (wordCalls (stateIn u t r) w) (buffersIn u t r) (buffersIn (a .lent) t' r')

@@ -53,18 +53,21 @@ pub(crate) fn no_bytes() -> Span
     Span { first: 0, count: 0 }
 }
 
+// How many bytes are held.
 pub(crate) fn count_of(room: usize, span: Span) -> usize
     ensures { λ r. ⌜ Length room span r ⌝ }
 {
     held(room, span.count)
 }
 
+// Whether none is.
 pub(crate) fn is_clear(room: usize, span: Span) -> bool
     ensures { λ r. ⌜ Clear room span r ⌝ }
 {
     count_of(room, span) == 0
 }
 
+// Without the oldest byte; where there is none, as it was.
 pub(crate) fn without_oldest(room: usize, mut span: Span) -> Span
     requires { ⌜ (1 < room) × (room ≤ rbfBytes) ⌝ }
     ensures { λ r. ⌜ r ≡ popped room span ⌝ }

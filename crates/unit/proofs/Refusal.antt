@@ -7,7 +7,8 @@ use Rattle.line.specs.Slot.{Class, slot, host, classOf}
 use Rattle.line.specs.declared.slot.Slot.{Slot}
 use Rattle.line.specs.declared.slot.Slot.the-variants.{Level, Start, Idle, Stray}
 use Rattle.lent.specs.Both.{buffersIn, leftBy}
-use Rattle.circles.specs.Buffers.{Buffers, Calls, called, callsAs, slotCalls, toldCalls, uncalled, wordCalls}
+use Rattle.circles.specs.Buffers.{Buffers, Calls, afterCalls, callsAs, noCalls, slotCalls, toldCalls}
+use Rattle.circles.specs.Buffers.{wordCalls}
 use Rattle.rules.proofs.Ruled.{given-is-none, refused-unchanged}
 use Rattle.rules.specs.Registers.{Told, wrote, restarted, gave, denied, registerOf, toldOf, valueOf}
 use Rattle.rules.specs.State.{State}
@@ -19,14 +20,14 @@ use Rattle.rules.specs.declared.state.Core.{Core}
 use Rattle.unit.specs.Unit.{lentOf, stateOf, unitBy}
 use Rattle.unit.specs.declared.step.Unit.{Unit}
 
--- ---- its buffers: a refused word calls neither
+-- ---- its buffers: a refused word makes no call on them
 
 level-uncalled : (c : Bool) (calls : Calls) (m : ℕ) (reply : Reply) (n : ℕ)
-    → pick c (Refused m) (Given reply) ≡ Refused n → pick c uncalled calls ≡ uncalled
+    → pick c (Refused m) (Given reply) ≡ Refused n → pick c noCalls calls ≡ noCalls
 level-uncalled true calls m reply n e = refl
 level-uncalled false calls m reply n e = absurd (given-is-none reply n e)
 
-slot-uncalled : (s t : State) (c : Slot) (n : ℕ) → slotSaid s t c ≡ Refused n → slotCalls s c ≡ uncalled
+slot-uncalled : (s t : State) (c : Slot) (n : ℕ) → slotSaid s t c ≡ Refused n → slotCalls s c ≡ noCalls
 unfolding slotSaid slotCalls
 slot-uncalled s t (Level bit) n e = level-uncalled (clashes s bit) _ _ _ n e
 slot-uncalled s t Start n e = absurd (given-is-none _ n e)
@@ -34,18 +35,18 @@ slot-uncalled s t Idle n e = absurd (given-is-none _ n e)
 slot-uncalled s t Stray n e = refl
 
 told-uncalled : (t : State) (told : Told) (register v n : ℕ) → toldSaid t told ≡ Refused n
-    → toldCalls told register v ≡ uncalled
+    → toldCalls told register v ≡ noCalls
 told-uncalled t (wrote r tbf) register v n e = absurd (given-is-none _ n e)
 told-uncalled t restarted register v n e = absurd (given-is-none _ n e)
 told-uncalled t (gave rbf value) register v n e = absurd (given-is-none _ n e)
 told-uncalled t (denied m) register v n e = refl
 
-as-uncalled : (k : Class) (s t : State) (w n : ℕ) → saidAs k s t w ≡ Refused n → callsAs k s w ≡ uncalled
+as-uncalled : (k : Class) (s t : State) (w n : ℕ) → saidAs k s t w ≡ Refused n → callsAs k s w ≡ noCalls
 as-uncalled (slot c) s t w n e = slot-uncalled s t c n e
 as-uncalled host s t w n e =
     told-uncalled t (toldOf (s .core .regs) (s .tbf) (s .rbf) w) (registerOf w) (valueOf w) n e
 
-word-uncalled : (s : State) (w n : ℕ) → answerOf s w ≡ Refused n → wordCalls s w ≡ uncalled
+word-uncalled : (s : State) (w n : ℕ) → answerOf s w ≡ Refused n → wordCalls s w ≡ noCalls
 unfolding answerOf wordCalls
 word-uncalled s w n e = as-uncalled (classOf w) s (stepOf s w) w n e
 
@@ -65,8 +66,8 @@ unfolding unitBy leftBy
 refused-whole u w n e =
     let s = stateOf u in
     let b = buffersIn (lentOf u) (u .tbf .bytes) (u .rbf .bytes) in
-    ap (λ (t : State). unitOf (t .core) (called (wordCalls s w) b)) (refused-unchanged s w n e)
-    ∙ ap (λ (calls : Calls). unitOf (u .core) (called calls b)) (word-uncalled s w n e)
+    ap (λ (t : State). unitOf (t .core) (afterCalls (wordCalls s w) b)) (refused-unchanged s w n e)
+    ∙ ap (λ (calls : Calls). unitOf (u .core) (afterCalls calls b)) (word-uncalled s w n e)
 
 -- what the rules leave of a unit, and that this is the unit as it was where the answer is a refusal
 pub whole-unchanged : (u v : Unit) (w : ℕ) (a : Answer) → v ≡ unitBy u w → a ≡ answerOf (stateOf u) w

@@ -3,7 +3,7 @@ use Prim.Native.Nat.{ℕ}
 use mathlib.Core.List.{List}
 use Rattle.line.specs.Numbers.{rbfBytes, tbfBytes}
 use lib.ListN.{replicate}
-use Rattle.circles.specs.Buffers.{Buffers}
+use Rattle.circles.specs.Buffers.{Buffers, InCircles, wordCalls}
 use Rattle.circles.specs.Calls.{vacant}
 use Rattle.circles.specs.Circle.{buffer, circleOf}
 use Rattle.lent.specs.Both.{leftBy}
@@ -24,6 +24,10 @@ stateOf u = record { core = u .core; tbf = tbfOf (u .tbf); rbf = rbfOf (u .rbf) 
 
 abbrev pub buffersOf : Unit → Buffers
 buffersOf u = record { tbf = buffer (u .tbf .bytes) (u .tbf .span); rbf = buffer (u .rbf .bytes) (u .rbf .span) }
+
+-- what a word leaves in the buffers is what its calls make of circles
+pub record Circling (u : Unit) (w : ℕ) (after : Unit) : Type 0 where
+  pub circles : InCircles (wordCalls (stateOf u) w) (buffersOf u) (buffersOf after)
 
 -- ---- whole
 

@@ -1,8 +1,7 @@
 // A unit by value: a reset one, and one word.
 ghost use Prim.Native.Nat.{ℕ};
 ghost use mathlib.Core.Path.{_≡_};
-ghost use Rattle.circles.specs.Buffers.{InCircles};
-ghost use Rattle.unit.specs.Unit.{buffersOf, resetUnit, stateOf, unitBy};
+ghost use Rattle.unit.specs.Unit.{Circling, resetUnit, stateOf, unitBy};
 ghost use Rattle.rules.specs.Refusals.{Ruled};
 ghost use Rattle.rules.specs.State.{reset};
 ghost use Rattle.rules.specs.Step.{answerOf, stepOf};
@@ -56,7 +55,7 @@ impl Unit {
         ensures { λ r. ⌜ stateOf (r .unit) ≡ stepOf (stateOf self) word ⌝ }
         ensures { λ r. ⌜ r .answer ≡ answerOf (stateOf self) word ⌝ }
         ensures refusals { λ r. ⌜ Ruled (stateOf self) word (stateOf (r .unit)) (r .answer) ⌝ }
-        ensures circles { λ r. ⌜ InCircles (buffersOf self) (buffersOf (r .unit)) ⌝ }
+        ensures circles { λ r. ⌜ Circling self word (r .unit) ⌝ }
         ensures whole { λ r. ⌜ r .unit ≡ unitBy self word ⌝ }
         ensures unchanged { λ r. ⌜ ((n : ℕ) → r .answer ≡ Refused n → r .unit ≡ self) ⌝ }
     {

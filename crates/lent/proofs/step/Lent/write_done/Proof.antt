@@ -5,7 +5,8 @@ use lib.ListN.{length}
 use Rattle.lent.specs.Both.{loanIn, writtenIn}
 use Rattle.circles.specs.Circle.{Buffer}
 use Rattle.lent.proofs.Changed.{filled-state, reset-state}
-use Rattle.circles.proofs.Circle.{push-length}
+use Rattle.circles.specs.Calls.{push}
+use Rattle.circles.proofs.Places.{call-unmoved}
 use borrow.Author.Needs.{needs}
 use Rattle.lent.proofs.step.Lent.write_done.Statement.{statement}
 use Rattle.lent.proofs.step.Lent.write_done.Tie as tie
@@ -17,7 +18,7 @@ write-done-spec =
     (λ c κs. search needs)
     (λ c κs. search needs)
     (λ c. let a = c .before .before .before .before .before .args in (
-      ap (λ (b : Buffer). length (b .bytes)) (c .before .tbf-push .ensures) ∙ push-length _ _ _,
+      ap (λ (b : Buffer). length (b .bytes)) (c .before .tbf-push .ensures) ∙ call-unmoved _ _ (push (a .v)) .as-long,
       λ r full. rw (c .done .ensures) (filled-state (a .self) (a .v) _ _ r _ (c .before .tbf-push .ensures) full
           ∙ done-tbf (loanIn (a .self) (a .tbf .now) r) (a .register)
           (a .v) (eq-eqb _ _ (c .before .before .before .if1 .taken))),
