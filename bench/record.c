@@ -12,7 +12,7 @@
 #include "iebus.h"
 #include "traffic/traffic.h"
 
-enum { SEED = 8 };
+enum { SEED = 10 };
 
 static void silent(struct traffic *t)
 {
