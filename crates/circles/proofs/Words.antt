@@ -13,7 +13,7 @@ use Rattle.rules.specs.declared.state.Act.{Act}
 use Rattle.rules.specs.declared.state.Act.the-variants.{Nothing, Take, Empty, Header, Byte}
 use Rattle.rules.proofs.Calm.{pick-ind}
 use Rattle.circles.specs.Buffers.{Buffers, Calls, InCircles, acting, afterCalls, callsAs, drawn, filled, sentBy}
-use Rattle.circles.specs.Buffers.{slotCalls, slotTaken, storedBy, toldCalls, noCalls, wordCalls}
+use Rattle.circles.specs.Buffers.{noCalls, slotCalls, slotTaken, storedBy, toldCalls, wordCalls}
 use Rattle.circles.specs.Calls.{push, take, empty, turns}
 use Rattle.circles.specs.Circle.{Buffer, Unmoved}
 use Rattle.circles.proofs.Places.{call-unmoved, same-unmoved, three-unmoved}
