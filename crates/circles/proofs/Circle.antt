@@ -7,7 +7,7 @@ use mathlib.Core.Logic.{_⊎_, inl, inr, ⊎-elim}
 use mathlib.Core.Path.{_≡_, refl, sym, ap, ap₂, _∙_}
 use borrow.Author.Tests.{eqb-false, eqb-true, le-ltb, lt-ltb, ltb-false, ltb-true}
 use lib.Dec.{eqb, ltb}
-use lib.ListN.{length, getD, set, drop}
+use lib.ListN.{length, set, drop}
 use lib.Seq.{getD-set-same, getD-set-other}
 use Rattle.line.specs.Choice.{pick}
 use Rattle.circles.specs.Calls.{fewer, popped, pushed, put}
@@ -71,10 +71,10 @@ held-same n k h = ⊎-elim (λ w. w .1) (λ w. omega arith) (picked k n k n)
 held-full : (n k : ℕ) → n ≤ k → heldOf n k ≡ n
 held-full n k h = ⊎-elim (λ w. omega arith) (λ w. w .1) (picked k n k n)
 
-pub held-least : (n k : ℕ) → heldOf n k ≤ n
-held-least n k = ⊎-elim (λ w. omega arith) (λ w. omega arith) (picked k n k n)
+pub held-most : (n k : ℕ) → heldOf n k ≤ n
+held-most n k = ⊎-elim (λ w. omega arith) (λ w. omega arith) (picked k n k n)
 
-held-some : (n k : ℕ) → 0 < n → 0 < k → 0 < heldOf n k
+pub held-some : (n k : ℕ) → 0 < n → 0 < k → 0 < heldOf n k
 held-some n k h j = ⊎-elim (λ w. omega arith) (λ w. omega arith) (picked k n k n)
 
 -- ---- bytes
@@ -96,11 +96,6 @@ items-more n bytes x l (suc k) f hf hk =
     (rw (wrap-next n f k hf hk)
     (items-more n bytes x l k (wrap n (f + 1)) (wrap-less n f 1 hf (omega arith)) (omega arith)))
 
-items-first : (n : ℕ) (bytes : List ℕ) (f k : ℕ) → 0 < k → getD bytes f 0 ≡ getD (items n bytes f k) 0 0
-unfolding items
-items-first n bytes f zero h = absurd (let b : ⊥ = omega arith in b)
-items-first n bytes f (suc k) h = refl
-
 items-rest : (n : ℕ) (bytes : List ℕ) (f k : ℕ) → 0 < k
     → items n bytes (wrap n (f + 1)) (k - 1) ≡ drop 1 (items n bytes f k)
 unfolding items
@@ -118,15 +113,11 @@ circle-push n bytes f k x l h =
     rw (e, held-same n k (omega arith), items-length n bytes k (startOf n f), lt-ltb k n h)
     (items-more n bytes x l k (startOf n f) (start-less n f (omega arith)) h)
 
-pub circle-front : (n : ℕ) (bytes : List ℕ) (f k : ℕ) → 0 < n → 0 < k
-    → getD bytes f 0 ≡ getD (items n bytes f (heldOf n k)) 0 0
-circle-front n bytes f k h j = items-first n bytes f (heldOf n k) (held-some n k h j)
-
 circle-pop : (n : ℕ) (bytes : List ℕ) (f k m : ℕ) → m ≡ heldOf n k → 0 < m
     → items n bytes (startOf n (wrap n (startOf n f + 1))) (heldOf n (m - 1))
     ≡ drop 1 (items n bytes (startOf n f) (heldOf n k))
 circle-pop n bytes f k m e j =
-    let b : m ≤ n = omega (arith, held-least n k) in
+    let b : m ≤ n = omega (arith, held-most n k) in
     let s : startOf n f < n = start-less n f (omega arith) in
     rw (
       held-same n (m - 1) (omega arith),

@@ -5,15 +5,15 @@ use mathlib.Core.List.{List}
 use mathlib.Core.Path.{_≡_, refl, sym, ap, _∙_}
 use borrow.Author.Tests.{eqb-false, ltb-true}
 use lib.Dec.{eqb, ltb}
-use lib.ListN.{getD, length-set}
+use lib.ListN.{getD, length, length-set}
 use lib.Seq.{ext-getD, getD-set-other}
 use Rattle.rules.proofs.Calm.{pick-ind}
 use Rattle.circles.specs.Calls.{Call, push, take, empty, fewer, popped, pushed, put, turned}
 use Rattle.circles.specs.Circle.{Buffer, Unmoved, buffer, circleOf, goneFrom, heldIn, heldOf, items, listOf}
 use Rattle.circles.specs.Circle.{placeIn, startOf, wrap}
 use Rattle.circles.specs.declared.Span.{Span}
-use Rattle.circles.proofs.Circle.{held-least, held-same, start-less, start-same, wrap-less, wrap-next}
-use Rattle.circles.proofs.Circle.{wrap-apart, wrap-none}
+use Rattle.circles.proofs.Circle.{held-most, held-same, held-some, items-length, start-less}
+use Rattle.circles.proofs.Circle.{start-same, wrap-apart, wrap-less, wrap-next, wrap-none}
 
 -- ---- places
 
@@ -35,9 +35,21 @@ pub byte-at : (room : ℕ) (b : Buffer) (k : ℕ) → k < heldIn room b
     → getD (listOf room b) k 0 ≡ getD (b .bytes) (placeIn room b k) 0
 unfolding circleOf
 byte-at room b k h =
-    let most = held-least room (b .span .count) in
+    let most = held-most room (b .span .count) in
     items-at room (b .bytes) k (startOf room (b .span .first)) (heldIn room b)
     (start-less room (b .span .first) (omega arith)) most h
+
+-- the oldest lies in the first place
+pub front-at : (room : ℕ) (b : Buffer) → 0 < room → 0 < b .span .count
+    → getD (b .bytes) (startOf room (b .span .first)) 0 ≡ getD (listOf room b) 0 0
+front-at room b h some =
+    let none = wrap-none room _ (start-less room (b .span .first) h) in
+    sym (byte-at room b 0 (held-some room (b .span .count) h some) ∙ ap (λ (place : ℕ). getD (b .bytes) place 0) none)
+
+-- and there are no more in the list
+pub list-length : (room : ℕ) (b : Buffer) → length (listOf room b) ≡ heldIn room b
+unfolding circleOf
+list-length room b = items-length room (b .bytes) (heldIn room b) (startOf room (b .span .first))
 
 -- no two bytes lie in one place
 pub places-apart : (room : ℕ) (b : Buffer) (j k : ℕ) → j < k → k < room → placeIn room b j ≡ placeIn room b k → ⊥
@@ -73,7 +85,7 @@ push-unmoved room b x =
 
 take-unmoved : (room : ℕ) (b : Buffer) → 0 < heldIn room b → Unmoved room b (buffer (b .bytes) (fewer room (b .span)))
 take-unmoved room b some =
-    let most = held-least room (b .span .count) in
+    let most = held-most room (b .span .count) in
     let start = start-less room (b .span .first) (omega arith) in
     let after : heldOf room (heldIn room b - 1) ≡ heldIn room b - 1 = held-same room _ (omega arith) in
     record {

@@ -16,8 +16,9 @@ use Rattle.line.specs.Numbers.{rbfBytes, tbfBytes}
 use Rattle.line.proofs.Either.{below-or-not}
 use Rattle.line.proofs.Filled.{Filled, nothing-filled, one-filled, all-filled}
 use Rattle.list_run.proofs.Underway.{cut}
-use Rattle.circles.proofs.Circle.{items-length}
-use Rattle.circles.specs.Circle.{circleOf, heldOf, items, startOf, wrap}
+use Rattle.circles.proofs.Circle.{held-most, items-length}
+use Rattle.circles.proofs.Places.{list-length}
+use Rattle.circles.specs.Circle.{buffer, circleOf, heldOf, items, startOf, wrap}
 use Rattle.circles.specs.declared.Span.{Span}
 use Rattle.place.specs.declared.Frame.{Frame}
 use Rattle.rules.specs.State.{State}
@@ -79,9 +80,6 @@ items-none n bytes f k e = rw e (items-nil n bytes f)
 pub zeros-none : (k : ℕ) → k ≡ 0 → replicate {A = ℕ} k 0 ≡ []
 zeros-none k e = rw e
 
-pub held-most : (n k : ℕ) → heldOf n k ≤ n
-held-most n k = ⊎-elim (λ h. rw (lt-ltb k n h) (omega arith)) (λ h. rw (le-ltb k n h) (omega arith)) (below-or-not k n)
-
 held-min : (n k : ℕ) → heldOf n k ≡ min n k
 held-min n k = ⊎-elim (λ h. rw (lt-ltb k n h) (omega arith)) (λ h. rw (le-ltb k n h) (omega arith)) (below-or-not k n)
 
@@ -98,9 +96,7 @@ straight n bytes l (suc k) f h =
 
 -- a circle holds no more bytes than there is room for
 pub circle-most : (n : ℕ) (bytes : List ℕ) (span : Span) → length (circleOf n bytes span) ≤ n
-unfolding circleOf
-circle-most n bytes span =
-    rw (items-length n bytes (heldOf n (span .count)) (startOf n (span .first))) (held-most n (span .count))
+circle-most n bytes span = rw (list-length n (buffer bytes span)) (held-most n (span .count))
 
 -- ---- a buffer's bytes
 

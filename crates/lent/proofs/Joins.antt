@@ -149,8 +149,8 @@ runs {u} {w} {t} {t'} {r} {r'} {a} sent stored word =
       answer = λ ft fr. ap (λ (b : Both). b .answer) (word ft fr);
       whole = λ ft fr. ap (λ (b : Both). leftAs (b .loan .state) (b .answer) (b .loan .buffers)) (word ft fr);
       circles =
-          λ ft fr. subst (λ (b : Both). InCircles (wordCalls (stateIn u t r) w) (buffersIn u t r) (b .loan .buffers)) (sym (word ft fr))
-          (word-circles (stateIn u t r) w (buffersIn u t r));
+          λ ft fr. subst (λ (b : Both). InCircles (wordCalls (stateIn u t r) w) (buffersIn u t r) (b .loan .buffers))
+          (sym (word ft fr)) (word-circles (stateIn u t r) w (buffersIn u t r));
     }
 
 -- the answer, from what the word came to and what is then driven

@@ -6,7 +6,7 @@ use Rattle.line.specs.Choice.{pick}
 use Rattle.line.specs.Slot.{Class, slot, host, classOf}
 use Rattle.line.specs.declared.slot.Slot.{Slot}
 use Rattle.line.specs.declared.slot.Slot.the-variants.{Level, Start, Idle, Stray}
-use Rattle.lent.specs.Both.{buffersIn, leftBy}
+use Rattle.lent.specs.Both.{leftBy}
 use Rattle.circles.specs.Buffers.{Buffers, Calls, afterCalls, callsAs, noCalls, slotCalls, toldCalls}
 use Rattle.circles.specs.Buffers.{wordCalls}
 use Rattle.rules.proofs.Ruled.{given-is-none, refused-unchanged}
@@ -17,7 +17,7 @@ use Rattle.rules.specs.declared.answer.Answer.{Answer}
 use Rattle.rules.specs.declared.answer.Answer.the-variants.{Given, Refused}
 use Rattle.rules.specs.declared.answer.Reply.{Reply}
 use Rattle.rules.specs.declared.state.Core.{Core}
-use Rattle.unit.specs.Unit.{lentOf, stateOf, unitBy}
+use Rattle.unit.specs.Unit.{buffersOf, stateOf, unitBy}
 use Rattle.unit.specs.declared.step.Unit.{Unit}
 
 -- ---- its buffers: a refused word makes no call on them
@@ -65,7 +65,7 @@ pub refused-whole : (u : Unit) (w n : ℕ) → answerOf (stateOf u) w ≡ Refuse
 unfolding unitBy leftBy
 refused-whole u w n e =
     let s = stateOf u in
-    let b = buffersIn (lentOf u) (u .tbf .bytes) (u .rbf .bytes) in
+    let b = buffersOf u in
     ap (λ (t : State). unitOf (t .core) (afterCalls (wordCalls s w) b)) (refused-unchanged s w n e)
     ∙ ap (λ (calls : Calls). unitOf (u .core) (afterCalls calls b)) (word-uncalled s w n e)
 

@@ -2,7 +2,8 @@
 use Prim.Native.Nat.{ℕ}
 use mathlib.Core.List.{List}
 use Rattle.line.specs.Numbers.{rbfBytes, tbfBytes}
-use lib.ListN.{replicate}
+use mathlib.Core.Path.{_≡_}
+use lib.ListN.{length, replicate}
 use Rattle.circles.specs.Buffers.{Buffers, InCircles, wordCalls}
 use Rattle.circles.specs.Calls.{vacant}
 use Rattle.circles.specs.Circle.{buffer, circleOf}
@@ -25,8 +26,10 @@ stateOf u = record { core = u .core; tbf = tbfOf (u .tbf); rbf = rbfOf (u .rbf) 
 abbrev pub buffersOf : Unit → Buffers
 buffersOf u = record { tbf = buffer (u .tbf .bytes) (u .tbf .span); rbf = buffer (u .rbf .bytes) (u .rbf .span) }
 
--- what a word leaves in the buffers is what its calls make of circles
+-- what a word leaves in the buffers is what its calls make of circles of 33 and 40 places
 pub record Circling (u : Unit) (w : ℕ) (after : Unit) : Type 0 where
+  pub tbf-places : length (u .tbf .bytes) ≡ tbfBytes
+  pub rbf-places : length (u .rbf .bytes) ≡ rbfBytes
   pub circles : InCircles (wordCalls (stateOf u) w) (buffersOf u) (buffersOf after)
 
 -- ---- whole

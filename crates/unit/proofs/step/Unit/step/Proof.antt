@@ -21,7 +21,11 @@ returns c =
         (
           rw (← t .0, ← r .0) (ruled _ _ _ _ (s .state (t .1) (r .1)) (s .answer (t .1) (r .1))),
           (
-            record { circles = rw (← t .0, ← r .0) (s .circles (t .1) (r .1)) },
+            record {
+              tbf-places = rw (← t .0) (t .1);
+              rbf-places = rw (← r .0) (r .1);
+              circles = rw (← t .0, ← r .0) (s .circles (t .1) (r .1));
+            },
             whole-unchanged (a .self) _ (a .word) _
                 (rw (← t .0, ← r .0) (ap (λ (left : Left). unitIn (left .lent) (left .tbf) (left .rbf))
                 (s .whole (t .1) (r .1))))
