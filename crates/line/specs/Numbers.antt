@@ -24,6 +24,13 @@ kindValue = 10
 abbrev pub kindRefused : ℕ
 kindRefused = 15
 
+-- A slot word: "bits 1-0 are 0 or 1 (settled level), 2 (start), 3 (idle)"
+abbrev pub slotStart : ℕ
+slotStart = 2
+
+abbrev pub slotIdle : ℕ
+slotIdle = 3
+
 -- "what the unit drives in the next slot: 0, 1 (released) or 2 (start)"
 abbrev pub driveLow : ℕ
 driveLow = 0
@@ -61,6 +68,9 @@ refusedContenderRange = 14
 
 abbrev pub refusedContendersAlike : ℕ
 refusedContendersAlike = 15
+
+abbrev pub refusedNoSlot : ℕ
+refusedNoSlot = 16
 
 -- Refused because of the state
 abbrev pub refusedLevel : ℕ
@@ -209,3 +219,38 @@ contestSlots = 13
 
 abbrev pub lastContestSlot : ℕ
 lastContestSlot = 14
+
+-- How a frame of a log ended, as its record has it: "whole, short after a complete attempt, NAK at slave address,
+-- control or length, broken off in which field"
+abbrev pub endWhole : ℕ
+endWhole = 0
+
+abbrev pub endShort : ℕ
+endShort = 1
+
+abbrev pub endNakSlave : ℕ
+endNakSlave = 2
+
+abbrev pub endNakControl : ℕ
+endNakControl = 3
+
+abbrev pub endNakLength : ℕ
+endNakLength = 4
+
+abbrev pub endBrokenBit : ℕ
+endBrokenBit = 5
+
+abbrev pub endBrokenMaster : ℕ
+endBrokenMaster = 6
+
+abbrev pub endBrokenSlave : ℕ
+endBrokenSlave = 7
+
+abbrev pub endBrokenControl : ℕ
+endBrokenControl = 8
+
+abbrev pub endBrokenLength : ℕ
+endBrokenLength = 9
+
+abbrev pub endBrokenData : ℕ
+endBrokenData = 10

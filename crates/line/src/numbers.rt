@@ -51,6 +51,8 @@ pub const REFUSED_CONTENDER_RANGE: u8 = 14;
 
 pub const REFUSED_CONTENDERS_ALIKE: u8 = 15;
 
+pub const REFUSED_NO_SLOT: u8 = 16;
+
 // Refused because of the state.
 pub const REFUSED_LEVEL: u8 = 5;
 
@@ -152,3 +154,27 @@ pub const HIGHEST_ADDRESS: u16 = 0xFFF;
 pub const CONTEST_SLOTS: u32 = 13;
 
 pub const LAST_CONTEST_SLOT: u32 = 14;
+
+// How a frame of a log ended, as its record has it: "whole, short after a complete attempt, NAK at slave address,
+// control or length, broken off in which field".
+pub const END_WHOLE: u32 = 0;
+
+pub const END_SHORT: u32 = 1;
+
+pub const END_NAK_SLAVE: u32 = 2;
+
+pub const END_NAK_CONTROL: u32 = 3;
+
+pub const END_NAK_LENGTH: u32 = 4;
+
+pub const END_BROKEN_BIT: u32 = 5;
+
+pub const END_BROKEN_MASTER: u32 = 6;
+
+pub const END_BROKEN_SLAVE: u32 = 7;
+
+pub const END_BROKEN_CONTROL: u32 = 8;
+
+pub const END_BROKEN_LENGTH: u32 = 9;
+
+pub const END_BROKEN_DATA: u32 = 10;
