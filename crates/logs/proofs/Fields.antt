@@ -1,0 +1,116 @@
+-- The fields of a frame: how large their numbers are, and how many are given, by how the header ends.
+use mathlib.Core.Bool.{Bool, true, false, false≢true}
+use mathlib.Core.List.{List, [], _∷_, map}
+use mathlib.Core.Logic.{_⊎_, inl, inr, ⊎-elim}
+use mathlib.Core.Path.{_≡_, refl}
+use Prim.Native.Nat.{ℕ, zero, suc, _+_, _*_, _^_, _≤_, _<_}
+use native.Mathlib.Nat.{mul-le-mul-right, pow-suc}
+use native.Mathlib.Omega.{arith}
+use borrow.Author.Tests.{lt-ltb}
+use lib.Dec.{eqb, ltb}
+use lib.ListN.{drop, getD, length, take}
+use lib.Pow.{pow-pos}
+use Rattle.line.proofs.Either.{below-or-not, both, either}
+use Rattle.line.specs.Choice.{pick}
+use Rattle.line.specs.Numbers.{endBrokenData}
+use Rattle.logs.specs.Frames.{Low}
+use Rattle.logs.specs.Fields.{Field, endIn, givenIn, header, lengthIn, naked, numberAt, numberFrom, valueIn}
+use Rattle.logs.specs.Log.{fieldsAt}
+use Rattle.logs.proofs.Frames.{low-drop}
+
+-- ---- numbers
+
+number-from : (bits n : ℕ) (levels : List ℕ) → Low levels → numberFrom n (take bits levels) < (n + 1) * 2 ^ bits
+unfolding numberFrom
+number-from zero n levels low = omega arith
+number-from (suc bits) n [] low = omega (arith, mul-le-mul-right (n + 1) (pow-pos (suc bits)))
+number-from (suc bits) n (level ∷ levels) low =
+    let rest = number-from bits (n * 2 + level) levels (λ i. low (suc i)) in
+    rw (pow-suc 2 bits) (omega (arith, mul-le-mul-right (2 ^ bits) (low 0)))
+
+pub number-low : (bits : ℕ) (levels : List ℕ) → Low levels → numberFrom 0 (take bits levels) < 2 ^ bits
+number-low bits levels low = omega (arith, number-from bits 0 levels low)
+
+pub number-at-low : (place bits : ℕ) (levels : List ℕ) → Low levels → numberAt levels place bits < 2 ^ bits
+number-at-low place bits levels low = number-low bits (drop place levels) (low-drop place levels low)
+
+pub length-most : (n : ℕ) → n < 256 → lengthIn n ≤ 256
+length-most n h = ⊎-elim (λ e. rw e (omega arith)) (λ e. rw e (omega arith)) (either (eqb n 0))
+
+-- ---- what is given
+
+-- it is what a field's slots say, or nothing
+pub given-most : (levels : List ℕ) (fs : List Field) (i : ℕ)
+    → getD (givenIn fs levels) i 0 ≤ getD (map (valueIn levels) fs) i 0
+unfolding givenIn
+given-most levels [] i = omega arith
+given-most levels (f ∷ fs) i = by (ltb (length levels) (f .end)) (naked levels f) i (given-most levels fs)
+  where
+    by : (cut nak : Bool) (i : ℕ) → ((i : ℕ) → getD (givenIn fs levels) i 0 ≤ getD (map (valueIn levels) fs) i 0)
+        → getD (pick cut [] (valueIn levels f ∷ pick nak [] (givenIn fs levels))) i 0
+        ≤ getD (map (valueIn levels) (f ∷ fs)) i 0
+    by true nak i later = omega arith
+    by false nak zero later = omega arith
+    by false true (suc i) later = omega arith
+    by false false (suc i) later = later i
+
+-- what the table of endings has for fields that stand behind n others
+abbrev Tabled : ℕ → List Field → Type 0
+Tabled n [] = n ≡ fieldsAt endBrokenData
+Tabled n (f ∷ fs) =
+    (n ≡ fieldsAt (f .broken)) × (f .answered ≡ true → suc n ≡ fieldsAt (f .nak)) × Tabled (suc n) fs
+
+fields-from : (levels : List ℕ) (fs : List Field) (n : ℕ) → Tabled n fs
+    → n + length (givenIn fs levels) ≡ fieldsAt (endIn fs levels)
+unfolding givenIn endIn
+fields-from levels [] n t = omega arith
+fields-from levels (f ∷ fs) n t =
+    by (ltb (length levels) (f .end)) (naked levels f) refl (fields-from levels fs (suc n) (t .2))
+  where
+    by : (cut nak : Bool) → naked levels f ≡ nak → suc n + length (givenIn fs levels) ≡ fieldsAt (endIn fs levels)
+        → n + length (pick cut [] (valueIn levels f ∷ pick nak [] (givenIn fs levels)))
+        ≡ fieldsAt (pick cut (f .broken) (pick nak (f .nak) (endIn fs levels)))
+    by true nak e later = omega arith
+    by false true e later = omega (arith, t .1 (both _ _ e .0))
+    by false false e later = omega arith
+
+-- one that nobody answers gets no NAK
+unanswered : {P : Type 0} → false ≡ true → P
+unanswered e = absurd (false≢true e)
+
+pub fields-given : (levels : List ℕ) → length (givenIn header levels) ≡ fieldsAt (endIn header levels)
+unfolding fieldsAt
+fields-given levels =
+    let table : Tabled 0 header =
+    (refl, unanswered, (refl, unanswered, (refl, λ e. refl, (refl, λ e. refl, (refl, λ e. refl, refl))))) in
+    omega (arith, fields-from levels header 0 table)
+
+-- how a header ends is one of the ends of its fields
+abbrev LowEnds : List Field → Type 0
+LowEnds [] = Unit
+LowEnds (f ∷ fs) = (f .broken ≤ 10) × (f .nak ≤ 10) × LowEnds fs
+
+end-low : (levels : List ℕ) (fs : List Field) → LowEnds fs → endIn fs levels ≤ 10
+unfolding endIn
+end-low levels [] low = omega arith
+end-low levels (f ∷ fs) low = by (ltb (length levels) (f .end)) (naked levels f) (end-low levels fs (low .2))
+  where
+    by : (cut nak : Bool) → endIn fs levels ≤ 10 → pick cut (f .broken) (pick nak (f .nak) (endIn fs levels)) ≤ 10
+    by true nak later = low .0
+    by false true later = low .1
+    by false false later = later
+
+pub header-end : (levels : List ℕ) → endIn header levels ≤ 10
+header-end levels = end-low levels header (omega arith)
+
+-- a word that may be left out
+pub at-most-one : (t : Bool) (x : ℕ) → length (pick t [] (x ∷ [])) < 2
+at-most-one true x = omega arith
+at-most-one false x = omega arith
+
+-- a master address that is given has its slots
+pub master-slots : (levels : List ℕ) → (length (givenIn header levels) < 2) ⊎ (14 ≤ length levels)
+unfolding givenIn
+master-slots levels =
+    ⊎-elim (λ short. inl (rw (lt-ltb _ 14 short) (at-most-one (ltb (length levels) 1) _))) (λ long. inr long)
+    (below-or-not (length levels) 14)

@@ -1,0 +1,58 @@
+-- The frames of a list: their levels, their number, and that a start begins them afresh.
+use mathlib.Core.Bool.{Bool, true, false}
+use mathlib.Core.List.{List, [], _∷_, _++_}
+use mathlib.Core.Path.{_≡_, refl, ap, ap₂}
+use Prim.Native.Nat.{ℕ, zero, suc, _+_, _<_}
+use native.Mathlib.Omega.{arith}
+use borrow.Author.Tests.{ltb-true}
+use lib.Dec.{eqb, ltb}
+use lib.ListN.{drop, getD, length}
+use lib.Seq.{getD-drop}
+use Rattle.line.specs.Choice.{bitOf, pick}
+use Rattle.line.specs.Numbers.{slotStart}
+use Rattle.logs.specs.Frames.{Low, framesOf, levelsFrom, startsIn}
+
+pub low-drop : (n : ℕ) (levels : List ℕ) → Low levels → Low (drop n levels)
+low-drop n levels low i = rw getD-drop (low (n + i))
+
+pub levels-low : (ws : List ℕ) → Low (levelsFrom ws)
+unfolding levelsFrom
+levels-low [] i = omega arith
+levels-low (w ∷ ws) i = by (ltb w slotStart) refl i (levels-low ws)
+  where
+    by : (t : Bool) → ltb w slotStart ≡ t → (i : ℕ) → Low (levelsFrom ws)
+        → getD (pick t (w ∷ levelsFrom ws) []) i 0 < 2
+    by true e zero low = ltb-true w slotStart e
+    by true e (suc i) low = low i
+    by false e i low = omega arith
+
+-- a start ends the levels before it
+levels-cut : (earlier later : List ℕ) → levelsFrom (earlier ++ slotStart ∷ later) ≡ levelsFrom earlier
+unfolding levelsFrom
+levels-cut [] later = refl
+levels-cut (w ∷ earlier) later =
+    ap (λ (levels : List ℕ). pick (ltb w slotStart) (w ∷ levels) []) (levels-cut earlier later)
+
+pub frames-cut : (earlier later : List ℕ)
+    → framesOf (earlier ++ slotStart ∷ later) ≡ framesOf earlier ++ levelsFrom later ∷ framesOf later
+unfolding framesOf
+frames-cut [] later = refl
+frames-cut (w ∷ earlier) later = by (eqb w slotStart) (frames-cut earlier later)
+  where
+    by : (t : Bool)
+        → framesOf (earlier ++ slotStart ∷ later) ≡ framesOf earlier ++ levelsFrom later ∷ framesOf later
+        → pick t (levelsFrom (earlier ++ slotStart ∷ later) ∷ framesOf (earlier ++ slotStart ∷ later))
+        (framesOf (earlier ++ slotStart ∷ later))
+        ≡ pick t (levelsFrom earlier ∷ framesOf earlier) (framesOf earlier) ++ levelsFrom later ∷ framesOf later
+    by true e = ap₂ _∷_ (levels-cut earlier later) e
+    by false e = e
+
+pub frames-counted : (slots : List ℕ) → length (framesOf slots) ≡ startsIn slots
+unfolding framesOf startsIn
+frames-counted [] = refl
+frames-counted (w ∷ ws) = by (eqb w slotStart) (frames-counted ws)
+  where
+    by : (t : Bool) → length (framesOf ws) ≡ startsIn ws
+        → length (pick t (levelsFrom ws ∷ framesOf ws) (framesOf ws)) ≡ bitOf t + startsIn ws
+    by true e = omega arith
+    by false e = omega arith

@@ -1,0 +1,9 @@
+-- The laws of a log: of its frames, of a frame's fields and data, of the marks, and what a user relies on.
+pub mod Frames
+pub mod Fields
+pub mod Data
+pub mod Readings
+pub mod Marks
+pub mod Again
+pub mod Apart
+pub mod Relied

@@ -1,0 +1,74 @@
+-- The records of some frames: one for each, and the mark of each by the frame before it.
+use mathlib.Core.Bool.{Bool, true, false}
+use mathlib.Core.List.{List, [], _∷_, _++_, map}
+use mathlib.Core.Path.{_≡_, refl, ap, subst}
+use Prim.Native.Nat.{ℕ, suc}
+use native.Mathlib.Omega.{arith}
+use lib.Dec.{eqb}
+use lib.ListN.{length}
+use Rattle.line.specs.Choice.{pick}
+use Rattle.line.specs.Numbers.{slotStart}
+use Rattle.logs.specs.Frames.{framesOf, levelsFrom}
+use Rattle.logs.specs.Log.{lastFrame, remarked}
+use Rattle.logs.specs.Readings.{Reading, equalFrames, readOf}
+use Rattle.logs.specs.Records.{Before, none, frame, Record, againAfter, markedAfter}
+
+pub marked-length : (before : Before) (rs : List Reading) → length (markedAfter before rs) ≡ length rs
+unfolding markedAfter
+marked-length before [] = refl
+marked-length before (r ∷ rs) = ap suc (marked-length (frame r) rs)
+
+-- records of frames after others are those of the frames alone, save the first mark
+marked-behind : (before : Before) (last : Reading) (rs : List Reading) (r : Reading) (later : List Reading)
+    → markedAfter before (last ∷ rs ++ r ∷ later)
+    ≡ markedAfter before (last ∷ rs)
+    ++ remarked (againAfter (lastFrame (last ∷ rs)) r) (markedAfter none (r ∷ later))
+unfolding lastFrame markedAfter remarked
+marked-behind before last [] r later = refl
+marked-behind before last (s ∷ rs) r later =
+    ap (λ (l : List Record). record { again = againAfter before last; reading = last } ∷ l)
+    (marked-behind (frame last) s rs r later)
+
+pub marked-cut : (rs : List Reading) (r : Reading) (later : List Reading)
+    → markedAfter none (rs ++ r ∷ later)
+    ≡ markedAfter none rs ++ remarked (againAfter (lastFrame rs) r) (markedAfter none (r ∷ later))
+unfolding lastFrame markedAfter remarked
+marked-cut [] r later = refl
+marked-cut (s ∷ rs) r later = marked-behind none s rs r later
+
+pub marked-first : (frames : List Reading) (r : Record) (rs : List Record) → markedAfter none frames ≡ r ∷ rs
+    → r .again ≡ false
+unfolding markedAfter
+marked-first [] r rs e = cc
+marked-first (f ∷ frames) r rs e = cc
+
+pub marked-next : (before : Before) (frames : List Reading) (done : List Record) (one r : Record) (rs : List Record)
+    → markedAfter before frames ≡ done ++ one ∷ r ∷ rs → r .again ≡ equalFrames (one .reading) (r .reading)
+unfolding markedAfter
+marked-next before [] [] one r rs e = cc
+marked-next before [] (d ∷ done) one r rs e = cc
+marked-next before (f ∷ []) [] one r rs e = cc
+marked-next before (f ∷ g ∷ frames) [] one r rs e = cc
+marked-next before (f ∷ frames) (d ∷ done) one r rs e = marked-next (frame f) frames done one r rs cc
+
+-- what holds of the frame at every start holds of every record's
+module _ (long : Bool) (P : Reading → Type 0) (holds : (ws : List ℕ) → P (readOf long (levelsFrom ws))) where
+  pub each-record : (slots : List ℕ) (before : Before) (done : List Record) (r : Record) (rs : List Record)
+      → markedAfter before (map (readOf long) (framesOf slots)) ≡ done ++ r ∷ rs → P (r .reading)
+  unfolding framesOf markedAfter
+  each-record [] before [] r rs e = absurd (let z : _≡_ {A = ℕ} 0 1 = cc in omega arith)
+  each-record [] before (d ∷ done) r rs e = absurd (let z : _≡_ {A = ℕ} 0 1 = cc in omega arith)
+  each-record (w ∷ ws) before done r rs e =
+      by (eqb w slotStart) done e (λ before done. each-record ws before done r rs)
+    where
+      by : (t : Bool) (done : List Record)
+          → markedAfter before (map (readOf long) (pick t (levelsFrom ws ∷ framesOf ws) (framesOf ws)))
+          ≡ done ++ r ∷ rs
+          → ((before : Before) (done : List Record)
+          → markedAfter before (map (readOf long) (framesOf ws)) ≡ done ++ r ∷ rs → P (r .reading))
+          → P (r .reading)
+      by true [] e later =
+          let here : readOf long (levelsFrom ws) ≡ r .reading = cc in
+          subst P here (holds ws)
+      by true (d ∷ done) e later = later (frame (readOf long (levelsFrom ws))) done cc
+      by false done e later = later before done e

@@ -1,0 +1,71 @@
+-- What a user relies on, of every list.
+use mathlib.Core.Bool.{Bool, true, false}
+use mathlib.Core.List.{List, [], _∷_, _++_, map, map-append}
+use mathlib.Core.Path.{_≡_, refl, _∙_}
+use Prim.Native.Nat.{ℕ, _+_, _≤_}
+use native.Mathlib.Omega.{arith}
+use borrow.Author.Tests.{eqb-true, ltb-true}
+use lib.Dec.{eqb, ltb}
+use lib.ListN.{length, length-append, length-map}
+use Rattle.line.specs.Choice.{pick}
+use Rattle.line.specs.Numbers.{slotStart}
+use Rattle.logs.specs.Frames.{framesOf, levelsFrom}
+use Rattle.logs.specs.Log.{Fresh, Relied}
+use Rattle.logs.specs.Readings.{readOf}
+use Rattle.logs.specs.Records.{Before, none, frame, Record, againAfter, markedAfter, recordsOf, wordsOf}
+use Rattle.logs.proofs.Again.{equal-exactly}
+use Rattle.logs.proofs.Apart.{taken-apart}
+use Rattle.logs.proofs.Frames.{frames-counted, frames-cut, levels-low}
+use Rattle.logs.proofs.Marks.{each-record, marked-cut, marked-first, marked-length, marked-next}
+use Rattle.logs.proofs.Readings.{Bounded, reading-bounded, record-fits}
+
+-- how many words the records of frames have
+abbrev wordCount : Bool → Before → List (List ℕ) → ℕ
+wordCount long before frames = length (wordsOf (markedAfter before (map (readOf long) frames)))
+
+-- they are no more than the list's, even with the levels at its front, which may be those of a frame before it
+words-fit : (long : Bool) (slots : List ℕ) (before : Before)
+    → length (levelsFrom slots) + wordCount long before (framesOf slots) ≤ length slots
+unfolding framesOf levelsFrom markedAfter wordsOf
+words-fit long [] before = omega arith
+words-fit long (w ∷ ws) before = by (ltb w slotStart) (eqb w slotStart) refl refl (words-fit long ws)
+  where
+    by : (level start : Bool) → ltb w slotStart ≡ level → eqb w slotStart ≡ start
+        → ((before : Before) → length (levelsFrom ws) + wordCount long before (framesOf ws) ≤ length ws)
+        → length (pick level (w ∷ levelsFrom ws) [])
+        + wordCount long before (pick start (levelsFrom ws ∷ framesOf ws) (framesOf ws))
+        ≤ length (w ∷ ws)
+    by true true l s later = absurd (omega (arith, ltb-true w _ l, eqb-true w _ s))
+    by true false l s later = omega (arith, later before)
+    by false true l s later =
+        let r = readOf long (levelsFrom ws) in
+        simp length-append (omega (arith, record-fits long (levelsFrom ws) (againAfter before r), later (frame r)))
+    by false false l s later = omega (arith, later before)
+
+fresh : (long : Bool) → Fresh long
+unfolding framesOf recordsOf
+fresh long earlier later =
+    rw (frames-cut earlier later, map-append)
+    (marked-cut (map (readOf long) (framesOf earlier)) (readOf long (levelsFrom later))
+    (map (readOf long) (framesOf later)))
+
+-- of every record, its numbers and its fields
+bounded : (long : Bool) (slots : List ℕ) (done : List Record) (r : Record) (rs : List Record)
+    → recordsOf long slots ≡ done ++ r ∷ rs → Bounded (r .reading)
+unfolding recordsOf
+bounded long slots =
+    each-record long Bounded (λ ws. reading-bounded long (levelsFrom ws) (levels-low ws)) slots none
+
+pub relied : (long : Bool) → Relied long
+unfolding recordsOf
+relied long = record {
+  fits = λ slots. omega (arith, words-fit long slots none);
+  counted = λ slots. marked-length none _ ∙ length-map (framesOf slots) (readOf long) ∙ frames-counted slots;
+  fresh = fresh long;
+  first = λ slots. marked-first (map (readOf long) (framesOf slots));
+  again = λ slots done before r rs e.
+      rw (marked-next none (map (readOf long) (framesOf slots)) done before r rs e)
+      (equal-exactly (before .reading) (r .reading));
+  apart = λ slots done r rs e. taken-apart r (bounded long slots done r rs e);
+  fields = λ slots done r rs e. bounded long slots done r rs e .fields;
+}

@@ -1,0 +1,119 @@
+-- Ticket 1, what reading a log comes to: "Answers: 16, a word that is no slot word, checked over the whole list before
+-- anything is read; 12, ahead of it, a lent answer list shorter than the slot list." And what a user relies on.
+use mathlib.Core.Bool.{Bool, true, false}
+use mathlib.Core.Path.{_≡_}
+use mathlib.Core.List.{List, [], _∷_, _++_, map}
+use Prim.Native.Nat.{ℕ, _/_, _%_, _<_, _≤_}
+use lib.Dec.{eqb, ltb}
+use lib.ListN.{drop, getD, length}
+use Rattle.line.specs.Choice.{bitOf, pick}
+use Rattle.line.specs.Numbers.{refusedNoSlot, refusedShortList, slotStart}
+use Rattle.logs.specs.declared.LogRead.{LogRead}
+use Rattle.logs.specs.declared.LogRead.the-variants.{Frames, ShortList, NoSlot}
+use Rattle.logs.specs.Frames.{framesOf, levelsFrom, startsIn, strayIn}
+use Rattle.logs.specs.Data.{noByte}
+use Rattle.logs.specs.Readings.{Reading, bitIn, bytesIn, controlIn, lengthOf, masterIn, readOf, slaveIn}
+use Rattle.logs.specs.Records.{Before, Record, againAfter, byteWord, firstWord, frame, none, recordsOf}
+use Rattle.logs.specs.Records.{secondWord, wordsOf}
+
+-- how the reading ends, where the answer list has so much room
+unfoldable pub endOf : ℕ → List ℕ → LogRead
+endOf room slots =
+    pick (ltb room (length slots)) ShortList (pick (strayIn slots) NoSlot (Frames (length (framesOf slots))))
+
+-- what is written: every record, or nothing where the list is refused
+unfoldable pub writtenOf : Bool → LogRead → List ℕ → List ℕ
+writtenOf long (Frames count) slots = wordsOf (recordsOf long slots)
+writtenOf long ShortList slots = []
+writtenOf long NoSlot slots = []
+
+-- a reading of `slots` into `before`, which ends as `r` says and leaves `after`
+pub record ReadLog (long : Bool) (slots before : List ℕ) (r : LogRead) (after : List ℕ) : Type 0 where
+  pub ends : r ≡ endOf (length before) slots
+  pub written : after ≡ writtenOf long r slots ++ drop (length (writtenOf long r slots)) before
+
+-- records with the mark of the first one changed
+unfoldable pub remarked : Bool → List Record → List Record
+remarked again [] = []
+remarked again (r ∷ rs) = record { again = again; reading = r .reading } ∷ rs
+
+-- the frame before what follows some frames
+unfoldable pub lastFrame : List Reading → Before
+lastFrame [] = none
+lastFrame (r ∷ []) = frame r
+lastFrame (r ∷ s ∷ rs) = lastFrame (s ∷ rs)
+
+-- "From a start word on, the reader gives what it gives on a fresh list, save the mark of the first frame there."
+abbrev pub Fresh : Bool → Type 0
+Fresh long =
+    (earlier later : List ℕ) → recordsOf long (earlier ++ slotStart ∷ later)
+    ≡ recordsOf long earlier
+    ++ remarked (againAfter (lastFrame (map (readOf long) (framesOf earlier))) (readOf long (levelsFrom later)))
+    (recordsOf long (slotStart ∷ later))
+
+-- "the same fields are given in it as in the frame before, and they and the ACKed bytes are equal"
+pub record SaysAgain (before r : Reading) : Type 0 where
+  pub fields : length (r .given) ≡ length (before .given)
+  pub values : (i : ℕ) → getD (r .given) i 0 ≡ getD (before .given) i 0
+  pub bytes : bytesIn r ≡ bytesIn before
+
+-- a mark is set exactly if something holds
+pub record Exactly (mark : Bool) (Holds : Type 0) : Type 0 where
+  pub only : mark ≡ true → Holds
+  pub always : Holds → mark ≡ true
+
+-- a record taken apart: what each bit field of its words says
+pub record TakenApart (r : Record) : Type 0 where
+  pub within : firstWord r < 0x8000_0000
+  pub ending : firstWord r % 0x10 ≡ r .reading .text .ending
+  pub again : firstWord r / 0x10 % 2 ≡ bitOf (r .again)
+  pub bit : firstWord r / 0x20 % 2 ≡ bitIn (r .reading)
+  pub control : firstWord r / 0x40 % 0x10 ≡ controlIn (r .reading)
+  pub bytes : firstWord r / 0x400 % 0x200 ≡ lengthOf (r .reading)
+  pub acked : firstWord r / 0x8_0000 % 0x40 ≡ length (r .reading .text .acked)
+  pub unacked : firstWord r / 0x200_0000 ≡ r .reading .text .unacked
+  pub master : secondWord (r .reading) % 0x1000 ≡ masterIn (r .reading)
+  pub slave : secondWord (r .reading) / 0x1000 ≡ slaveIn (r .reading)
+  pub byte : (i : ℕ) → byteWord (getD (r .reading .text .acked) i noByte) % 0x100
+      ≡ getD (r .reading .text .acked) i noByte .byte
+  pub attempts : (i : ℕ) → byteWord (getD (r .reading .text .acked) i noByte) / 0x100
+      ≡ getD (r .reading .text .acked) i noByte .attempts
+
+-- how many fields are given, of a frame that ended so
+unfoldable pub fieldsAt : ℕ → ℕ
+fieldsAt ending = getD (5 ∷ 5 ∷ 3 ∷ 4 ∷ 5 ∷ 0 ∷ 1 ∷ 2 ∷ 3 ∷ 4 ∷ 5 ∷ []) ending 0
+
+-- what a user relies on, of every list
+pub record Relied (long : Bool) : Type 0 where
+  -- "n words always hold the records of n slots"
+  pub fits : (slots : List ℕ) → length (wordsOf (recordsOf long slots)) ≤ length slots
+  pub counted : (slots : List ℕ) → length (recordsOf long slots) ≡ startsIn slots
+  pub fresh : Fresh long
+  pub first : (slots : List ℕ) (r : Record) (rs : List Record) → recordsOf long slots ≡ r ∷ rs → r .again ≡ false
+  pub again : (slots : List ℕ) (done : List Record) (before r : Record) (rs : List Record)
+      → recordsOf long slots ≡ done ++ before ∷ r ∷ rs
+      → Exactly (r .again) (SaysAgain (before .reading) (r .reading))
+  pub apart : (slots : List ℕ) (done : List Record) (r : Record) (rs : List Record)
+      → recordsOf long slots ≡ done ++ r ∷ rs → TakenApart r
+  pub fields : (slots : List ℕ) (done : List Record) (r : Record) (rs : List Record)
+      → recordsOf long slots ≡ done ++ r ∷ rs → length (r .reading .given) ≡ fieldsAt (r .reading .text .ending)
+
+-- the same from C: what is given back, and the number of frames, which keeps its value where the list is refused
+unfoldable pub numberOf : LogRead → ℕ
+numberOf (Frames count) = 0
+numberOf ShortList = refusedShortList
+numberOf NoSlot = refusedNoSlot
+
+unfoldable pub framesAfter : LogRead → ℕ → ℕ
+framesAfter (Frames count) before = count
+framesAfter ShortList before = before
+framesAfter NoSlot before = before
+
+-- "the mode": 0 is 16 attempts, any other 32
+abbrev pub longIn : ℕ → Bool
+longIn mode = pick (eqb mode 0) false true
+
+pub record CalledLog (mode : ℕ) (slots before : List ℕ) (count r : ℕ) (after : List ℕ) (countAfter : ℕ) : Type 0 where
+  pub number : r ≡ numberOf (endOf (length before) slots)
+  pub frames : countAfter ≡ framesAfter (endOf (length before) slots) count
+  pub records : ReadLog (longIn mode) slots before (endOf (length before) slots) after
