@@ -1,0 +1,140 @@
+// The record of one frame.
+ghost use mathlib.Core.Path.{_≡_};
+ghost use Prim.Native.Nat.{_+_, _<_, _≤_};
+ghost use lib.Dec.{eqb};
+ghost use lib.ListN.{length};
+ghost use Rattle.line.specs.Choice.{pick};
+ghost use Rattle.logs.specs.Frames.{Low};
+ghost use Rattle.logs.specs.Data.{attemptsOf};
+ghost use Rattle.logs.specs.Fields.{givenIn, header};
+ghost use Rattle.logs.specs.Readings.{dataOf};
+ghost use Rattle.reader.specs.Heads.{headOf};
+ghost use Rattle.reader.specs.Texts.{Wrote, pasted};
+ghost use Rattle.reader.specs.Records.{Bits, RecordPut, frontOf, frontWords, packed};
+use crate::entry::Entry;
+use crate::entry::alike;
+use crate::head::Head;
+use crate::head::head_of;
+use crate::text::Body;
+use crate::text::DATA_PLACE;
+use crate::text::put_text;
+use line::numbers::ATTEMPTS_MODE_0;
+use line::numbers::ATTEMPTS_MODE_1;
+use line::numbers::END_BROKEN_DATA;
+
+fn limit(long: bool) -> u32
+    ensures { λ r. ⌜ r ≡ pick long 32 16 ⌝ }
+{
+    if long {
+        return ATTEMPTS_MODE_1 as u32;
+    }
+    ATTEMPTS_MODE_0 as u32
+}
+
+// How many attempts a frame makes at most.
+fn most_attempts(long: bool, bit: u32, bytes: u32) -> u32
+    ensures { λ r. ⌜ (r ≡ attemptsOf long (eqb bit 0) bytes) × (r ≤ 32) ⌝ }
+{
+    let limit = limit(long);
+    if bit != 0 {
+        return limit;
+    }
+    if limit < bytes {
+        return limit;
+    }
+    bytes
+}
+
+// Writes the ACKed bytes of a frame, if it came to its data, from a place of the records on.
+fn put_data(long: bool, head: Head, levels: &[u32], records: &mut [u32], at: usize) -> Body
+    requires { ⌜ Low (now levels) × (head ≡ headOf (now levels)) ⌝ }
+    requires { ⌜ at + length (now levels) ≤ 44 + length (now records) ⌝ }
+    ensures { λ r. ⌜
+        Wrote (dataOf long (givenIn header (now (levels .entry))) (now (levels .entry))) at (now (records .entry)) r
+        (now (records .exit)) ⌝ }
+{
+    let ending = head.ending;
+    let bit = head.bit;
+    let bytes = head.length;
+    if (ending == END_BROKEN_DATA) & (DATA_PLACE < levels.len()) {
+        return put_text(
+            levels,
+            bit,
+            bytes,
+            most_attempts(long, bit, bytes),
+            records,
+            at,
+        );
+    }
+    Body {
+        acked: 0,
+        unacked: 0,
+        ending,
+    }
+}
+
+fn first_word(head: Head, body: Body, again: bool) -> u32
+    requires { ⌜ Bits head body ⌝ }
+    ensures { λ r. ⌜ r ≡ packed head body again ⌝ }
+{
+    let bit = head.bit;
+    let control = head.control;
+    let length = head.length;
+    let acked = body.acked;
+    let unacked = body.unacked;
+    let ending = body.ending;
+    ending
+        + (again as u32) * 0x10
+        + bit * 0x20
+        + control * 0x40
+        + length * 0x400
+        + (acked as u32) * 0x8_0000
+        + unacked * 0x200_0000
+}
+
+// How many words stand before the bytes: the second is there where the master address is given.
+fn front_words(head: Head) -> usize
+    ensures { λ r. ⌜ r ≡ frontWords head ⌝ }
+{
+    if head.given < 2 {
+        return 1;
+    }
+    2
+}
+
+// Writes the words before the bytes.
+fn put_front(records: &mut [u32], at: usize, head: Head, first: u32)
+    requires { ⌜ (at + frontWords head ≤ length (now records)) × (head .master < 0x1000) × (head .slave < 0x1000) ⌝ }
+    ensures { λ _. ⌜ now (records .exit) ≡ pasted (now (records .entry)) at (frontOf head first) ⌝ }
+{
+    let master = head.master;
+    let slave = head.slave;
+    records[at] = first;
+    if 2 <= head.given {
+        records[at + 1] = master + slave * 0x1000;
+    }
+}
+
+// Writes the record of a frame of these levels from a place on. `some` says whether there is a frame before.
+pub(crate) fn put_record(
+    long: bool,
+    levels: &[u32],
+    records: &mut [u32],
+    at: usize,
+    before: Entry,
+    some: bool,
+) -> Entry
+    requires { ⌜ Low (now levels) × (at + 1 + length (now levels) ≤ length (now records)) ⌝ }
+    requires { ⌜ before .bytes + before .acked ≤ at ⌝ }
+    ensures { λ r. ⌜
+        RecordPut long (now (levels .entry)) at before some (now (records .entry)) r (now (records .exit)) ⌝ }
+{
+    let head = head_of(levels);
+    let bytes = at + front_words(head);
+    let body = put_data(long, head, levels, records, bytes);
+    let acked = body.acked;
+    let entry = Entry { head, acked, bytes };
+    let again = some & alike(records, before, entry);
+    put_front(records, at, head, first_word(head, body, again));
+    entry
+}
