@@ -2,11 +2,16 @@
 // function has a `requires`, and nothing is assumed.
 ghost use Rattle.contenders.specs.Contest.{ContestedWord, NamedRightly, contendersOf, verdictIn};
 ghost use Rattle.lists.specs.Bytes.{CalledBytes};
+ghost use Rattle.logs.specs.Log.{CalledLog, Relied, longIn};
 ghost use Rattle.rules.specs.State.{reset};
 ghost use Rattle.keeping.specs.Calls.{Ran, Reset};
 use contenders::Contender;
 use contenders::Contenders;
+use line::numbers::REFUSED_NO_SLOT;
+use line::numbers::REFUSED_SHORT_LIST;
 use list_run::bytes::run_bytes;
+use logs::LogRead;
+use reader::read_log;
 use records::gathered;
 use unit::step::Unit;
 
@@ -59,4 +64,27 @@ pub extern "C" fn iebus_unit_run(state: &mut [u8], words: &[u8], answers: &mut [
         (now (answers .exit)) ⌝ }
 {
     lasting::calls::run(state, words, answers)
+}
+
+// A record for each frame of a log, one behind the other: 0 and the number of frames, or 12 or 16.
+#[no_mangle]
+pub extern "C" fn iebus_read_log(
+    mode: u32,
+    slots: &[u32],
+    records: &mut [u32],
+    frames: &mut u64,
+) -> u32
+    ensures whole { λ r. ⌜ CalledLog mode (now (slots .entry)) (now (records .entry)) (now (frames .entry)) r
+        (now (records .exit)) (now (frames .exit)) ⌝ }
+    ensures relied { λ _. ⌜ Relied (longIn mode) ⌝ }
+{
+    let read = read_log(mode != 0, slots, records);
+    match read {
+        LogRead::Frames(count) => {
+            *frames = count as u64;
+            0
+        }
+        LogRead::ShortList => REFUSED_SHORT_LIST as u32,
+        LogRead::NoSlot => REFUSED_NO_SLOT as u32,
+    }
 }

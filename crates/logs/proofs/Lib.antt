@@ -7,3 +7,4 @@ pub mod Marks
 pub mod Again
 pub mod Apart
 pub mod Relied
+pub mod Called

@@ -1,6 +1,6 @@
 -- Ticket 1, what reading a log comes to: "Answers: 16, a word that is no slot word, checked over the whole list before
 -- anything is read; 12, ahead of it, a lent answer list shorter than the slot list." And what a user relies on.
-use mathlib.Core.Bool.{Bool, true, false}
+use mathlib.Core.Bool.{Bool, true, false, not}
 use mathlib.Core.Path.{_≡_}
 use mathlib.Core.List.{List, [], _∷_, _++_, map}
 use Prim.Native.Nat.{ℕ, _/_, _%_, _<_, _≤_}
@@ -111,7 +111,7 @@ framesAfter NoSlot before = before
 
 -- "the mode": 0 is 16 attempts, any other 32
 abbrev pub longIn : ℕ → Bool
-longIn mode = pick (eqb mode 0) false true
+longIn mode = not (eqb mode 0)
 
 pub record CalledLog (mode : ℕ) (slots before : List ℕ) (count r : ℕ) (after : List ℕ) (countAfter : ℕ) : Type 0 where
   pub number : r ≡ numberOf (endOf (length before) slots)
