@@ -1,4 +1,5 @@
-/* The numbers of document 01, each named once: words, answers, registers, refusals, return codes, capacities. */
+/* The numbers of document 01, each named once: words, answers, registers, refusals (16 is ticket 1's), return codes,
+   capacities. */
 #ifndef MODEL_WORDS_H
 #define MODEL_WORDS_H
 
@@ -64,7 +65,7 @@ enum refusal {
     REFUSED_KIND = 1, REFUSED_STRAY_BIT = 2, REFUSED_REGISTER = 3, REFUSED_VALUE = 4, REFUSED_LEVEL = 5,
     REFUSED_OUT_OF_TURN = 6, REFUSED_TBF_FULL = 7, REFUSED_TBF_SHORT = 8, REFUSED_RBF_EMPTY = 9,
     REFUSED_CANNOT_SERVE = 10, REFUSED_BYTE_COUNT = 11, REFUSED_SHORT_LIST = 12, REFUSED_CONTENDERS = 13,
-    REFUSED_CONTENDER = 14, REFUSED_ALIKE = 15
+    REFUSED_CONTENDER = 14, REFUSED_ALIKE = 15, REFUSED_NO_SLOT = 16
 };
 
 /* "Codes, in the order started, data wanted or full, normal, aborted: 0 to 3 sending, 4 to 7 receiving,
