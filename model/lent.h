@@ -1,0 +1,75 @@
+/* What a reader of logs is lent and what it leaves there, so that one reader can be held against another. */
+#ifndef MODEL_LENT_H
+#define MODEL_LENT_H
+
+#include <inttypes.h>
+#include <stdbool.h>
+#include <stdio.h>
+#include <string.h>
+
+#include "traffic/logs.h"
+
+/* What stands in a lent place before, so that every write is seen. */
+#define UNTOUCHED_BYTE 0xA5
+#define UNTOUCHED_WORD 0xA5A5A5A5u
+#define UNTOUCHED_FRAMES 0xA5A5A5A5A5A5A5A5u
+
+/* Places watched behind the lent ones. */
+enum { PLACES_BEHIND = 8 };
+
+typedef uint32_t log_reader(uint32_t mode, const uint32_t *slots, size_t slots_len, uint32_t *records,
+                            size_t records_len, uint64_t *frames);
+
+struct reading {
+    uint32_t result;
+    uint64_t frames;
+    uint32_t records[MOST_LOG_SLOTS + MOST_SPARE + PLACES_BEHIND];
+};
+
+/* How many places are looked at after a reading: all that were lent, or would have had to be, and some behind them. */
+static inline size_t places_watched(const struct log *log)
+{
+    return (log->records_len > log->len ? log->records_len : log->len) + PLACES_BEHIND;
+}
+
+static inline void read_lent(log_reader *read, const struct log *log, struct reading *reading)
+{
+    memset(reading->records, UNTOUCHED_BYTE, places_watched(log) * sizeof *reading->records);
+    reading->frames = UNTOUCHED_FRAMES;
+    reading->result = read(log->mode, log->slots, log->len, reading->records, log->records_len, &reading->frames);
+}
+
+static inline bool readings_alike(const struct log *log, const struct reading *a, const struct reading *b)
+{
+    return a->result == b->result && a->frames == b->frames
+           && memcmp(a->records, b->records, places_watched(log) * sizeof *a->records) == 0;
+}
+
+/* From a place on every word that is watched stands as it stood. */
+static inline bool untouched_from(const struct log *log, const struct reading *reading, size_t place)
+{
+    for (size_t i = place; i < places_watched(log); i++)
+        if (reading->records[i] != UNTOUCHED_WORD)
+            return false;
+    return true;
+}
+
+/* The log, as known_logs.h writes it, and where two readings of it part. */
+static inline void print_difference(const struct log *log, const struct reading *a, const struct reading *b)
+{
+    printf("mode %" PRIu32 ", %zu slots, %zu places for records: ", log->mode, log->len, log->records_len);
+    for (size_t i = 0; i < log->len; i++)
+        if (log->slots[i] < 4)
+            putchar("01S_"[log->slots[i]]);
+        else
+            printf(" %08" PRIX32 " ", log->slots[i]);
+    printf("\nresults %" PRIu32 " and %" PRIu32 ", frames %" PRIu64 " and %" PRIu64 "\n", a->result, b->result,
+           a->frames, b->frames);
+    for (size_t i = 0; i < places_watched(log); i++)
+        if (a->records[i] != b->records[i]) {
+            printf("place %zu: %08" PRIX32 " and %08" PRIX32 "\n", i, a->records[i], b->records[i]);
+            return;
+        }
+}
+
+#endif
