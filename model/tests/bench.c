@@ -83,5 +83,6 @@ int main(void)
     circles();
     striking();
     life();
+    logs();
     return cases_failed > 0;
 }

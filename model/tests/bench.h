@@ -32,5 +32,6 @@ void scenes(void);
 void circles(void);
 void striking(void);
 void life(void);
+void logs(void);
 
 #endif
