@@ -1,4 +1,5 @@
-/* An IEBus unit (the uPD72042A and B on layers 1 and 2) and the contest of several masters, for a host in C or C++.
+/* An IEBus unit (the uPD72042A and B on layers 1 and 2), the contest of several masters and a reader of line logs, for
+   a host in C or C++.
 
    A host owns one state for each unit on its board and talks to it in words of 32 bits, one word for each slot of the
    line and one for each access to a register; each word has one answer. After each answer the host knows what the unit
@@ -36,7 +37,7 @@ extern "C" {
 #define IEBUS_STATE_BYTES 119
 
 /* Given by iebus_unit_reset and iebus_unit_run where the state has another size than that. It is no number of the
-   bus's rules, which end at 15. */
+   bus's rules, which end at 16. */
 #define IEBUS_BAD_STATE_SIZE 100
 
 /* Makes a state that of a reset unit: no address, nothing requested, buffers empty, unlocked, waiting for a start.
@@ -94,6 +95,23 @@ static inline unsigned iebus_contest_place(uint32_t result)
 {
     return (unsigned)(result & 0xFFFF);
 }
+
+/* Reads a log of the whole line: slot words as IEBUS_SLOT_LOW .. IEBUS_SLOT_IDLE name them, in the order of the line.
+   Each start word begins a frame, and `*frames` gets their number. A frame's levels go on up to the next start, idle or
+   the list's end; levels outside frames are passed over. `mode` is 0 for 16 attempts, any other for 32.
+
+   Each frame has a record of 1 to 34 words (below), in order, one behind the other from records[0] on. Places past the
+   last record keep their contents. The records of any n slots fit in n words. From a start word on the records are
+   those of a list that begins there, save IEBUS_RECORD_AGAIN of the first.
+
+   Slots and records are lists of uint32_t in the host's own order, and their lengths count words. A unit's words
+   (iebus_unit_run) are bytes, the lowest first.
+
+   Gives 0 or, with nothing written, not `*frames` either, the first that applies of
+     12 IEBUS_REFUSED_SHORT_LIST   records_len is less than slots_len
+     16 IEBUS_REFUSED_NO_SLOT      a word is over 3, wherever it stands */
+uint32_t iebus_read_log(uint32_t mode, const uint32_t *slots, size_t slots_len, uint32_t *records, size_t records_len,
+                        uint64_t *frames);
 
 /* ---- words: the kind is in the top four bits */
 
@@ -179,7 +197,8 @@ enum {
     IEBUS_REFUSED_SHORT_LIST = 12,
     IEBUS_REFUSED_CONTENDER_COUNT = 13,
     IEBUS_REFUSED_CONTENDER_RANGE = 14,
-    IEBUS_REFUSED_CONTENDERS_ALIKE = 15
+    IEBUS_REFUSED_CONTENDERS_ALIKE = 15,
+    IEBUS_REFUSED_NO_SLOT = 16
 };
 
 /* ---- registers that are written */
@@ -289,6 +308,70 @@ enum {
 
     IEBUS_CODE_AT_RESET = 15      /* nothing yet */
 };
+
+/* ---- records of a log
+
+   A record is its first word, then, where the master address is given, a second word, then a word for each byte that
+   was ACKed, in order. All records of a log:
+
+       for (const uint32_t *record = records; frames-- > 0; record += iebus_record_words(record[0]))
+           for (unsigned i = 0; i < IEBUS_RECORD_ACKED(record[0]); i++)
+               use(IEBUS_RECORD_BYTE(iebus_record_bytes(record)[i])); */
+
+/* How a frame ended. NAK ends a frame to one slave alone; in a broadcast nobody answers. "Broken off" is cut by idle, a
+   start or the list's end, in the field whose slot would have come next. */
+enum {
+    IEBUS_END_WHOLE = 0,            /* all its bytes were ACKed; in a broadcast, had good parity */
+    IEBUS_END_SHORT = 1,            /* not all, and it ended after a complete attempt at a byte */
+    IEBUS_END_NAK_SLAVE = 2,
+    IEBUS_END_NAK_CONTROL = 3,
+    IEBUS_END_NAK_LENGTH = 4,
+    IEBUS_END_BROKEN_BIT = 5,
+    IEBUS_END_BROKEN_MASTER = 6,
+    IEBUS_END_BROKEN_SLAVE = 7,
+    IEBUS_END_BROKEN_CONTROL = 8,
+    IEBUS_END_BROKEN_LENGTH = 9,
+    IEBUS_END_BROKEN_DATA = 10
+};
+
+/* The fields of a first word. A field is given where all its slots are on the line (iebus_record_fields), else it is 0;
+   the broadcast bit is as on the line, 0 for a broadcast. */
+#define IEBUS_RECORD_END(first) ((unsigned)((uint32_t)(first) & 0xF))
+#define IEBUS_RECORD_AGAIN(first) ((unsigned)((uint32_t)(first) >> 4 & 1))       /* says what the frame before said */
+#define IEBUS_RECORD_BIT(first) ((unsigned)((uint32_t)(first) >> 5 & 1))
+#define IEBUS_RECORD_CONTROL(first) ((unsigned)((uint32_t)(first) >> 6 & 0xF))
+#define IEBUS_RECORD_LENGTH(first) ((unsigned)((uint32_t)(first) >> 10 & 0x1FF)) /* 1 to 256 */
+#define IEBUS_RECORD_ACKED(first) ((unsigned)((uint32_t)(first) >> 19 & 0x3F))   /* how many bytes, 0 to 32 */
+#define IEBUS_RECORD_UNACKED(first) ((unsigned)((uint32_t)(first) >> 25 & 0x3F)) /* complete attempts after them */
+
+/* Of a second word. */
+#define IEBUS_RECORD_MASTER(second) ((unsigned)((uint32_t)(second) & 0xFFF))
+#define IEBUS_RECORD_SLAVE(second) ((unsigned)((uint32_t)(second) >> 12 & 0xFFF))
+
+/* Of a byte's word: the byte, and the complete attempts from the ACKed byte before it up to this one, 1 to 32. */
+#define IEBUS_RECORD_BYTE(word) ((uint8_t)((uint32_t)(word) & 0xFF))
+#define IEBUS_RECORD_ATTEMPTS(word) ((unsigned)((uint32_t)(word) >> 8 & 0x3F))
+
+/* How many fields are given: the first so many of broadcast bit, master, slave address, control, length. */
+static inline unsigned iebus_record_fields(uint32_t first)
+{
+    unsigned end = IEBUS_RECORD_END(first);
+    if (end >= IEBUS_END_BROKEN_BIT)
+        return end - IEBUS_END_BROKEN_BIT;
+    return end >= IEBUS_END_NAK_SLAVE ? end + 1 : 5;
+}
+
+/* How many words a record has. */
+static inline size_t iebus_record_words(uint32_t first)
+{
+    return 1 + (size_t)(iebus_record_fields(first) >= 2) + IEBUS_RECORD_ACKED(first);
+}
+
+/* The words of a record's bytes. */
+static inline const uint32_t *iebus_record_bytes(const uint32_t *record)
+{
+    return record + iebus_record_words(record[0]) - IEBUS_RECORD_ACKED(record[0]);
+}
 
 /* ---- sizes */
 

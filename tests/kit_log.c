@@ -1,0 +1,132 @@
+/* The header's macros for the records of a log: a log whose frames end in every way is read, walked and taken apart
+   again. It compiles as C and as C++, and needs nothing but the installed header and library. */
+#include <string.h>
+
+#include "check.h"
+#include "iebus.h"
+
+enum { ROOM = 2048, MASTER = 0x123, SLAVE = 0x456, CONTROL = IEBUS_CONTROL_DATA, BYTE = 0xA5, UNTOUCHED = 0x5A5A5A5A };
+
+/* Where a frame ends among its levels: behind the start, and behind each of its five fields. */
+static const size_t field_ends[] = {0, 1, 14, 28, 34, 44};
+
+struct log {
+    uint32_t slots[ROOM];
+    size_t count;
+};
+
+static void put(struct log *log, uint32_t slot)
+{
+    log->slots[log->count++] = slot;
+}
+
+/* The bits of a field, highest first, P, and A where it has one (-1 for none). */
+static void put_field(struct log *log, unsigned value, unsigned bits, int answer)
+{
+    unsigned ones = 0;
+    for (unsigned i = bits; i-- > 0;) {
+        put(log, value >> i & 1);
+        ones += value >> i & 1;
+    }
+    put(log, ones & 1);
+    if (answer >= 0)
+        put(log, (uint32_t)answer);
+}
+
+/* A frame to one slave whose `nak` th answered field, 1 to 3, gets NAK (0: none), cut to so many levels, then idle. */
+static void put_frame(struct log *log, unsigned nak, unsigned bytes, size_t levels)
+{
+    put(log, IEBUS_SLOT_START);
+    size_t begin = log->count;
+    put(log, IEBUS_SLOT_HIGH);
+    put_field(log, MASTER, 12, -1);
+    put_field(log, SLAVE, 12, nak == 1);
+    put_field(log, CONTROL, 4, nak == 2);
+    put_field(log, 2, 8, nak == 3);
+    for (unsigned i = 0; i < bytes; i++) {
+        put_field(log, BYTE, 8, 1);
+        put_field(log, BYTE + i, 8, 0);
+    }
+    if (log->count > begin + levels)
+        log->count = begin + levels;
+    put(log, IEBUS_SLOT_IDLE);
+}
+
+static struct log every_ending(void)
+{
+    struct log log;
+    log.count = 0;
+    put_frame(&log, 0, 2, ROOM);
+    put_frame(&log, 0, 1, ROOM);
+    put_frame(&log, 1, 0, field_ends[3]);
+    put_frame(&log, 2, 0, field_ends[4]);
+    put_frame(&log, 3, 0, field_ends[5]);
+    for (unsigned fields = 0; fields <= 5; fields++)
+        put_frame(&log, 0, 0, field_ends[fields]);
+    return log;
+}
+
+/* The fields that a record has to have, each given or 0. */
+static bool fields_come_back(const uint32_t *record, unsigned fields)
+{
+    bool holds = iebus_record_fields(record[0]) == fields;
+    holds &= IEBUS_RECORD_BIT(record[0]) == (fields >= 1);
+    holds &= IEBUS_RECORD_CONTROL(record[0]) == (fields >= 4 ? CONTROL : 0);
+    holds &= IEBUS_RECORD_LENGTH(record[0]) == (fields >= 5 ? 2u : 0u);
+    if (fields < 2)
+        return holds && iebus_record_words(record[0]) == 1;
+    holds &= IEBUS_RECORD_MASTER(record[1]) == MASTER;
+    return holds && IEBUS_RECORD_SLAVE(record[1]) == (fields >= 3 ? SLAVE : 0);
+}
+
+static bool bytes_come_back(const uint32_t *record, unsigned bytes)
+{
+    bool holds = IEBUS_RECORD_ACKED(record[0]) == bytes && IEBUS_RECORD_UNACKED(record[0]) == 0;
+    for (unsigned i = 0; i < bytes && holds; i++) {
+        uint32_t word = iebus_record_bytes(record)[i];
+        holds &= IEBUS_RECORD_BYTE(word) == BYTE + i && IEBUS_RECORD_ATTEMPTS(word) == 2;
+    }
+    return holds;
+}
+
+/* Walks the records of the log and takes each apart. */
+static void walk(const uint32_t *record)
+{
+    static const unsigned given[] = {5, 5, 3, 4, 5, 0, 1, 2, 3, 4, 5};
+    bool ends = true, fields = true, bytes = true, again = false;
+    for (unsigned end = 0; end <= IEBUS_END_BROKEN_DATA; end++, record += iebus_record_words(record[0])) {
+        ends &= IEBUS_RECORD_END(record[0]) == end;
+        fields &= fields_come_back(record, given[end]);
+        bytes &= bytes_come_back(record, end == IEBUS_END_WHOLE ? 2 : end == IEBUS_END_SHORT);
+        again |= IEBUS_RECORD_AGAIN(record[0]) != 0;
+    }
+    check("each ending comes back", ends);
+    check("each field comes back", fields);
+    check("each byte comes back with its attempts", bytes);
+    check("no frame says what the one before said", !again);
+    check("the walk ends behind the last record", *record == UNTOUCHED);
+}
+
+static void refusals(struct log *log, uint32_t *records)
+{
+    uint64_t frames = UNTOUCHED;
+    log->slots[log->count - 1] = IEBUS_SLOT_IDLE + 1;
+    check("a word over 3 is number 16",
+          iebus_read_log(0, log->slots, log->count, records, ROOM, &frames) == IEBUS_REFUSED_NO_SLOT);
+    check("a short list is number 12, ahead of it",
+          iebus_read_log(0, log->slots, log->count, records, log->count - 1, &frames) == IEBUS_REFUSED_SHORT_LIST);
+    check("a refusal tells no number of frames", frames == UNTOUCHED);
+}
+
+int main(void)
+{
+    struct log log = every_ending();
+    uint32_t records[ROOM];
+    uint64_t frames = 0;
+    memset(records, 0x5A, sizeof records);
+    check("a log is read", iebus_read_log(0, log.slots, log.count, records, ROOM, &frames) == 0);
+    check("it has eleven frames", frames == IEBUS_END_BROKEN_DATA + 1);
+    walk(records);
+    refusals(&log, records);
+    return any_failed;
+}
