@@ -28,7 +28,7 @@ static void break_off(struct bench *b, unsigned slots)
 {
     desk_send(&b->desk_2, &b->stage, IEBUS_CONTROL_DATA_LOCK, words, sizeof words);
     line_start(&b->line);
-    while (b->line.count + 1 < slots)
+    while (b->line.count < slots)
         line_level(&b->line);
     station_begin(&b->desk_2, b->desk_2.name, b->desk_2.address, 0);
     line_idle(&b->line);

@@ -24,7 +24,8 @@ bool line_start(struct line *l)
         return false;
     hand_out(l, IEBUS_SLOT_START);
     l->frames++;
-    l->count = 0;
+    l->slots[0] = IEBUS_SLOT_START;
+    l->count = 1;
     return true;
 }
 
@@ -42,22 +43,23 @@ static unsigned settled(const struct line *l)
    master's driver stage keeps the bits coming, so there is no need to ask. */
 static bool goes_on(struct line *l)
 {
-    if (!watch_has_master(l))
+    int master = watch_master(l);
+    if (master < 0)
         return true;
     for (size_t i = 0; i < LINE_STATIONS; i++)
-        if (l->stations[i]->address == watch_master(l))
+        if (l->stations[i]->address == (unsigned)master)
             return station_requests(l->stations[i]);
     return false;
 }
 
 bool line_level(struct line *l)
 {
-    if (l->count == LINE_LEVELS) {
+    if (l->count == LINE_SLOTS) {
         fprintf(stderr, "frame %u does not end\n", l->frames);
         exit(2);
     }
     unsigned level = settled(l);
-    l->levels[l->count++] = (uint8_t)level;
+    l->slots[l->count++] = level;
     hand_out(l, level);
     return goes_on(l);
 }

@@ -6,14 +6,14 @@
 
 enum {
     LINE_STATIONS = 4,
-    /* levels of the longest frame: 44 after the start slot, and 10 for each of 32 attempts */
-    LINE_LEVELS = 44 + 10 * IEBUS_ATTEMPTS_MODE_1,
+    /* slots of the longest frame: the start, 44 levels up to the length's A, and 10 for each of 32 attempts */
+    LINE_SLOTS = 1 + 44 + 10 * IEBUS_ATTEMPTS_MODE_1,
 };
 
 struct line {
     struct station *stations[LINE_STATIONS];
     unsigned frames;                 /* so far */
-    uint8_t levels[LINE_LEVELS];     /* those of the frame under way, or of the last one */
+    uint32_t slots[LINE_SLOTS];      /* those of the frame under way, or of the last one, its start among them */
     size_t count;
 };
 

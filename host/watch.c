@@ -1,91 +1,75 @@
 #include <stdio.h>
+#include <stdlib.h>
 
 #include "watch.h"
 
-/* Where each field begins among the levels after the start slot. Each has a P behind it and, from the slave address
-   on, an A. */
-enum {
-    AT_BROADCAST = 0,
-    AT_MASTER = 1,
-    AT_SLAVE = 14,
-    AT_CONTROL = 28,
-    AT_LENGTH = 34,
-    AT_DATA = 44,
-    ADDRESS_BITS = 12,
-    CONTROL_BITS = 4,
-    BYTE_BITS = 8,
-    ATTEMPT_LEVELS = 10,
-};
-
-static unsigned field(const struct line *l, size_t at, size_t bits)
+/* The record of the frame that the line has under way, or had last. Its slots begin with its start, so it is the only
+   one, and its words are no more than its slots. */
+static void read_frame(const struct line *l, uint32_t record[LINE_SLOTS])
 {
-    unsigned value = 0;
-    for (size_t i = at; i < at + bits; i++)
-        value = value << 1 | l->levels[i];
-    return value;
-}
-
-static bool is_broadcast(const struct line *l)
-{
-    return l->levels[AT_BROADCAST] == 0;
-}
-
-/* The A of a field, which follows its P, is 0. In a broadcast nobody answers, and A says nothing. */
-static bool acked(const struct line *l, size_t at, size_t bits)
-{
-    return l->count > at + bits + 1 && (is_broadcast(l) || l->levels[at + bits + 1] == 0);
-}
-
-bool watch_has_master(const struct line *l)
-{
-    return l->count >= AT_MASTER + ADDRESS_BITS;
-}
-
-unsigned watch_master(const struct line *l)
-{
-    return field(l, AT_MASTER, ADDRESS_BITS);
-}
-
-/* The place of the first field that was not acknowledged, in words. */
-static const char *turned_down(const struct line *l)
-{
-    if (!acked(l, AT_SLAVE, ADDRESS_BITS))
-        return "the slave address";
-    if (!acked(l, AT_CONTROL, CONTROL_BITS))
-        return "the control";
-    return "the length";
-}
-
-static void print_bytes(const struct line *l)
-{
-    size_t bytes = 0;
-    printf("         ");
-    for (size_t at = AT_DATA; at + ATTEMPT_LEVELS <= l->count; at += ATTEMPT_LEVELS) {
-        printf(" %02X", field(l, at, BYTE_BITS));
-        bytes += acked(l, at, BYTE_BITS);
+    uint64_t frames;
+    if (iebus_read_log(0, l->slots, l->count, record, LINE_SLOTS, &frames) != 0 || frames != 1) {
+        fprintf(stderr, "frame %u is none\n", l->frames);
+        exit(2);
     }
-    printf("  (%zu of %u)\n", bytes, field(l, AT_LENGTH, BYTE_BITS));
 }
 
-static void print_parties(const struct line *l)
+int watch_master(const struct line *l)
 {
-    printf("frame %2u: %s to %s", l->frames, line_name(l, watch_master(l)),
-           is_broadcast(l) ? "everybody" : line_name(l, field(l, AT_SLAVE, ADDRESS_BITS)));
+    uint32_t record[LINE_SLOTS];
+    read_frame(l, record);
+    return iebus_record_fields(record[0]) < 2 ? -1 : (int)IEBUS_RECORD_MASTER(record[1]);
+}
+
+/* How a frame ended that has not come to its data; NULL for one that has. */
+static const char *end_in_header(uint32_t first)
+{
+    switch (IEBUS_RECORD_END(first)) {
+    case IEBUS_END_NAK_SLAVE:
+        return "NAK after the slave address";
+    case IEBUS_END_NAK_CONTROL:
+        return "NAK after the control";
+    case IEBUS_END_NAK_LENGTH:
+        return "NAK after the length";
+    case IEBUS_END_BROKEN_CONTROL:
+        return "broken off in the control";
+    case IEBUS_END_BROKEN_LENGTH:
+        return "broken off in the length";
+    default:
+        return NULL;
+    }
+}
+
+static void print_bytes(const uint32_t *record)
+{
+    unsigned bytes = IEBUS_RECORD_ACKED(record[0]);
+    printf("         ");
+    for (unsigned i = 0; i < bytes; i++)
+        printf(" %02X", IEBUS_RECORD_BYTE(iebus_record_bytes(record)[i]));
+    printf("  (%u of %u)\n", bytes, IEBUS_RECORD_LENGTH(record[0]));
+}
+
+static void print_parties(const struct line *l, const uint32_t *record)
+{
+    printf("frame %2u: %s to %s", l->frames, line_name(l, IEBUS_RECORD_MASTER(record[1])),
+           IEBUS_RECORD_BIT(record[0]) == 0 ? "everybody" : line_name(l, IEBUS_RECORD_SLAVE(record[1])));
+    if (iebus_record_fields(record[0]) > 3)
+        printf(", %XH", IEBUS_RECORD_CONTROL(record[0]));
 }
 
 void watch_print(const struct line *l)
 {
-    if (l->count < AT_CONTROL) {
-        printf("frame %2u: broken off after %zu slots\n", l->frames, l->count + 1);
+    uint32_t record[LINE_SLOTS];
+    read_frame(l, record);
+    if (iebus_record_fields(record[0]) < 3) {
+        printf("frame %2u: broken off after %zu slots\n", l->frames, l->count);
         return;
     }
-    print_parties(l);
-    if (l->count >= AT_CONTROL + CONTROL_BITS)
-        printf(", %XH", field(l, AT_CONTROL, CONTROL_BITS));
-    if (!acked(l, AT_LENGTH, BYTE_BITS)) {
-        printf(": NAK after %s, %zu slots\n", turned_down(l), l->count + 1);
+    print_parties(l, record);
+    if (end_in_header(record[0])) {
+        printf(": %s, %zu slots\n", end_in_header(record[0]), l->count);
         return;
     }
-    printf(": length %u, %zu slots\n", field(l, AT_LENGTH, BYTE_BITS), l->count + 1);
-    print_bytes(l);
+    printf(": length %u, %zu slots\n", IEBUS_RECORD_LENGTH(record[0]), l->count);
+    print_bytes(record);
 }

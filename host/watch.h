@@ -1,12 +1,11 @@
-/* A frame read off the line's levels, for people: nothing here is known to the units. */
+/* A frame read off the line's slots by the library's reader, for people: nothing here is known to the units. */
 #ifndef HOST_WATCH_H
 #define HOST_WATCH_H
 
 #include "line.h"
 
-/* Whether the master address is out, and the address. */
-bool watch_has_master(const struct line *l);
-unsigned watch_master(const struct line *l);
+/* The master's address, -1 as long as it is not out. */
+int watch_master(const struct line *l);
 
 /* One line for the frame, and one with its bytes if it had any. */
 void watch_print(const struct line *l);

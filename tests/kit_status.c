@@ -44,7 +44,7 @@ static void begin(struct scene *s)
 static void frame(struct scene *s, size_t slots)
 {
     line_start(&s->line);
-    while (s->line.count + 1 < slots && line_level(&s->line))
+    while (s->line.count < slots && line_level(&s->line))
         continue;
     line_idle(&s->line);
 }
@@ -52,7 +52,7 @@ static void frame(struct scene *s, size_t slots)
 static bool writes_well(struct scene *s, struct station *desk, unsigned control)
 {
     desk_send(desk, &s->stage, control, text, sizeof text);
-    frame(s, LINE_LEVELS);
+    frame(s, LINE_SLOTS);
     return IEBUS_MARC(station_read(desk, IEBUS_REG_RCR)) == IEBUS_CODE_SENDING + IEBUS_CODE_NORMAL;
 }
 
@@ -61,7 +61,7 @@ static int asks(struct scene *s, struct station *desk, unsigned control)
 {
     uint8_t bytes[IEBUS_RBF_BYTES];
     desk_ask(desk, &s->stage, control);
-    frame(s, LINE_LEVELS);
+    frame(s, LINE_SLOTS);
     return station_received(desk, bytes) == IEBUS_HEADER_BYTES + 1 ? bytes[IEBUS_HEADER_BYTES] : -1;
 }
 
