@@ -12,8 +12,6 @@
 
 #include "clock.h"
 #include "iebus.h"
-/* until iebus.h declares it */
-#include "tools/iebus_read_log.h"
 
 #include "lent.h"
 #include "plain_log.h"

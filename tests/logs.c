@@ -5,8 +5,6 @@
 #include <string.h>
 
 #include "iebus.h"
-/* until iebus.h declares it */
-#include "tools/iebus_read_log.h"
 
 #include "check.h"
 #include "known_logs.h"
