@@ -29,6 +29,25 @@ suite() {
     failed=$((failed + suite_failed))
 }
 
+# beside COMMAND..: starts a suite that what follows need not wait for; `joined NAME` waits for it and counts it
+beside() {
+    beside_log=$(mktemp) || exit 2
+    { "$@"; echo $? >"$beside_log.status"; } >"$beside_log" 2>&1 &
+    beside_job=$!
+}
+
+joined() {
+    wait "$beside_job"
+    suite "$1" told_beside
+    rm -f "$beside_log" "$beside_log.status"
+}
+
+# what the suite beside has said, and its status; one that was cut off has none, and fails
+told_beside() {
+    cat "$beside_log"
+    return "$(cat "$beside_log.status" 2>/dev/null || echo 1)"
+}
+
 # one NAME COMMAND..: a single test, which passes where the command's status is 0
 one() {
     one_name=$1
