@@ -1,17 +1,15 @@
 -- The header of a frame, field by field: each is broken off, gets NAK, or is read on behind.
-use mathlib.Core.Bool.{Bool, true, false, _&&_}
-use mathlib.Core.Path.{_≡_, refl, sym, ap, _∙_}
+use mathlib.Core.Bool.{true, false, _&&_}
+use mathlib.Core.Path.{_≡_, refl}
 use mathlib.Core.List.{List, [], _∷_}
 use Prim.Native.Nat.{ℕ, _+_, _*_, _<_, _≤_}
 use native.Mathlib.Omega.{arith}
 use borrow.Author.Tests.{le-ltb, lt-ltb}
 use lib.Dec.{eqb}
 use lib.ListN.{drop, getD, length}
-use lib.Seq.{drop-cons}
 use Rattle.line.specs.Numbers.{endBrokenBit, endBrokenControl, endBrokenData, endBrokenLength, endBrokenMaster}
 use Rattle.line.specs.Numbers.{endBrokenSlave, endNakControl, endNakLength, endNakSlave}
 use Rattle.logs.specs.Fields.{Field, endIn, givenIn, header, lengthIn, naked, numberAt, numberFrom, valueIn}
-use Rattle.reader.specs.declared.head.Head.{Head}
 use Rattle.reader.specs.Heads.{Addressed, headIn, headOf}
 
 -- what the fields from one on give, and how the frame ends in them
@@ -23,31 +21,29 @@ module _ {levels : List ℕ} (f : Field) (fs : List Field) where
   pub broken-off : length levels < f .end → Told (f ∷ fs) levels [] (f .broken)
   unfolding givenIn endIn
   broken-off short =
-      record { gives = simp (lt-ltb (length levels) (f .end) short); ends = simp (lt-ltb (length levels) (f .end) short) }
+      let cut = lt-ltb (length levels) (f .end) short in
+      record { gives = simp cut; ends = simp cut }
 
   pub nak-there : f .end ≤ length levels → naked levels f ≡ true → Told (f ∷ fs) levels (valueIn levels f ∷ []) (f .nak)
   unfolding givenIn endIn
   nak-there long nak =
-      record {
-        gives = simp (le-ltb (length levels) (f .end) long, nak);
-        ends = simp (le-ltb (length levels) (f .end) long, nak);
-      }
+      let whole = le-ltb (length levels) (f .end) long in
+      record { gives = simp (whole, nak); ends = simp (whole, nak) }
 
   pub read-on : {given : List ℕ} {ending : ℕ} → f .end ≤ length levels → naked levels f ≡ false
       → Told fs levels given ending
       → Told (f ∷ fs) levels (valueIn levels f ∷ given) ending
   unfolding givenIn endIn
   read-on {given} {ending} long acked behind =
-      record {
-        gives = simp (le-ltb (length levels) (f .end) long, acked, behind .gives);
-        ends = simp (le-ltb (length levels) (f .end) long, acked, behind .ends);
-      }
+      let whole = le-ltb (length levels) (f .end) long in
+      record { gives = simp (whole, acked, behind .gives); ends = simp (whole, acked, behind .ends) }
 
 nothing-more : {levels : List ℕ} → Told [] levels [] endBrokenData
 unfolding givenIn endIn
 nothing-more = record { gives = refl; ends = refl }
 
-pub told-head : {levels given : List ℕ} {ending : ℕ} → Told header levels given ending → headIn given ending ≡ headOf levels
+pub told-head : {levels given : List ℕ} {ending : ℕ} → Told header levels given ending
+    → headIn given ending ≡ headOf levels
 unfolding headOf
 told-head {levels} {given} {ending} t = rw (t .gives, t .ends)
 
@@ -83,7 +79,8 @@ module _ (levels : List ℕ) {bit master : ℕ} (is-bit : bit ≡ getD levels 0 
       → headIn (bit ∷ master ∷ slave ∷ []) endNakSlave ≡ headOf levels
   nak-slave is enough nak = rw is (mastered (nak-there _ _ enough (rw is-bit at nak)))
 
-module _ {levels : List ℕ} {bit master slave : ℕ} (a : Addressed levels bit master slave) (long : 28 ≤ length levels) where
+module _ {levels : List ℕ} {bit master slave : ℕ} (a : Addressed levels bit master slave)
+    (long : 28 ≤ length levels) where
   addressed : {given : List ℕ} {ending : ℕ} → Told (drop 3 header) levels given ending
       → headIn (bit ∷ master ∷ slave ∷ given) ending ≡ headOf levels
   addressed t =

@@ -42,8 +42,8 @@ StandsBefore none some entry records = some ≡ false
 StandsBefore (frame r) some entry records = (some ≡ true) × Stands r entry records
 
 -- the record of a frame is written from a place on, and its entry stands for the next frame
-pub record RecordPut (long : Bool) (levels : List ℕ) (at : ℕ) (old : Entry) (some : Bool) (before : List ℕ) (entry : Entry)
-    (after : List ℕ) : Type 0 where
+pub record RecordPut (long : Bool) (levels : List ℕ) (at : ℕ) (old : Entry) (some : Bool) (before : List ℕ)
+    (entry : Entry) (after : List ℕ) : Type 0 where
   pub written : (b : Before) → StandsBefore b some old before
       → after
       ≡ pasted before at

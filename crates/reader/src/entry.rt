@@ -1,8 +1,6 @@
 // What the reader keeps of the frame before, and whether a frame says it again.
-ghost use mathlib.Core.Bool.{_&&_};
 ghost use mathlib.Core.Path.{_≡_};
 ghost use Prim.Native.Nat.{_+_, _≤_};
-ghost use lib.Dec.{eqb};
 ghost use lib.ListN.{length};
 ghost use Rattle.line.specs.Cases.{same};
 ghost use Rattle.reader.specs.Entries.{alikeHeads, alikeEntries, bytesFrom};
@@ -45,7 +43,9 @@ fn alike_bytes(records: &[u32], a: usize, b: usize, count: usize) -> bool
 
 // Whether a frame says what the one before said.
 pub(crate) fn alike(records: &[u32], before: Entry, entry: Entry) -> bool
-    requires { ⌜ (before .bytes + before .acked ≤ length (now records)) × (entry .bytes + entry .acked ≤ length (now records)) ⌝ }
+    requires { ⌜
+        (before .bytes + before .acked ≤ length (now records))
+        × (entry .bytes + entry .acked ≤ length (now records)) ⌝ }
     ensures { λ r. ⌜ r ≡ alikeEntries (now (records .entry)) before entry ⌝ }
 {
     let count = entry.acked;

@@ -135,8 +135,8 @@ fn head_mastered(levels: &[u32]) -> Head
     head_answered(levels, bit, master, slave)
 }
 
-// The header of a frame of these levels. A frame that has all of it and no NAK is broken off in its data, until its data
-// tells otherwise.
+// The header of a frame of these levels. A frame that has all of it and no NAK is broken off in its data, until its
+// data tells otherwise.
 pub(crate) fn head_of(levels: &[u32]) -> Head
     requires { ⌜ Low (now levels) ⌝ }
     ensures { λ r. ⌜ r ≡ headOf (now (levels .entry)) ⌝ }

@@ -1,6 +1,6 @@
-// The reader of line logs: it "belongs to no address", takes "the mode and a lent list of slot words and gives the number
-// of frames and, in order, one record for each from its start". The public function has no `requires`, and nothing is
-// assumed.
+// The reader of line logs: it "belongs to no address", takes "the mode and a lent list of slot words and gives the
+// number of frames and, in order, one record for each from its start". The public function has no `requires`, and
+// nothing is assumed.
 mod entry;
 mod head;
 mod levels;
@@ -63,8 +63,8 @@ fn put_records(long: bool, slots: &[u32], records: &mut [u32]) -> usize
     frames
 }
 
-// Reads a log. `long` is mode 1, with 32 attempts. The records go to the front of the list, one behind the other; places
-// past them keep their contents, and so does the whole list where the log is refused.
+// Reads a log. `long` is mode 1, with 32 attempts. The records go to the front of the list, one behind the other;
+// places past them keep their contents, and so does the whole list where the log is refused.
 pub fn read_log(long: bool, slots: &[u32], records: &mut [u32]) -> LogRead
     ensures whole { λ r. ⌜ ReadLog long (now (slots .entry)) (now (records .entry)) r (now (records .exit)) ⌝ }
     ensures relied { λ _. ⌜ Relied long ⌝ }

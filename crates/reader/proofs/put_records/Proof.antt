@@ -29,21 +29,28 @@ put-records-spec =
     (λ c. let within = c .levels-end .ensures .within in omega (arith, within .ahead))
     (λ c. let within = c .levels-end .ensures .within in omega (arith, within .ahead, within .inside))
     (λ c. let within = c .levels-end .ensures .within in omega (arith, within .ahead, within .inside))
-    (λ c κs. let now = c .before .before .before .before .loop in
+    (λ c κs. let turn = c .before .before .before in
+    let inv = turn .before .loop .inv in
+    let more = turn .loop-test .taken in
     let end = c .before .before .levels-end .ensures in
-    let more = c .before .before .before .loop-test .taken in
-    let room = c .before .before .before .before .before .before .before .before .before .pre in
-    ((levels-there (now .inv) more room end, record-room (now .inv) more room end), now .inv .behind))
-    (λ c. let now = c .before .before .before .before .before .before .before .before .loop in
-    let ahead = next-ahead (now .inv) (c .before .before .before .before .before .before .before .loop-test .taken) (c .before .before .before .before .before .before .before .before .before .before .before .before .before .pre) (c .before .before .before .before .before .before .levels-end .ensures)
-    (c .before .before .before .put-record .ensures) in
-    let inside = c .before .before .before .before .before .before .levels-end .ensures .within .inside in
-    omega arith)
-    (λ c. omega (arith, c .before .before .before .before .before .before .before .before .loop .inv .few, c .before .before .before .before .before .before .before .loop-test .taken))
+    let room = turn .before .before .before .before .before .before .pre in
+    ((levels-there inv more room end, record-room inv more room end), inv .behind))
+    (λ c. let turn = c .before .before .before .before .before .before .before in
+    let end = c .before .before .before .before .before .before .levels-end .ensures in
+    let room = turn .before .before .before .before .before .before .pre in
+    let put = c .before .before .before .put-record .ensures in
+    omega (arith, next-ahead (turn .before .loop .inv) (turn .loop-test .taken) room end put, end .within .inside))
+    (λ c. let turn = c .before .before .before .before .before .before .before in
+    omega (arith, turn .before .loop .inv .few, turn .loop-test .taken))
     (λ c κs. c .before .before .before .before .before .before .levels-end .ensures .within .inside)
-    (λ c. omega (arith, c .next-start2 .ensures .within .ahead, c .before .before .before .before .before .before .before .levels-end .ensures .within .ahead, c .before .before .before .before .before .before .before .before .loop-test .taken))
-    (λ c. let now = c .before .before .before .before .before .before .before .before .before .loop in
-    so-far-one (now .inv) (c .before .before .before .before .before .before .before .before .loop-test .taken) (c .before .before .before .before .before .before .before .before .before .before .before .before .before .before .pre) (c .before .before .before .before .before .before .before .levels-end .ensures)
-    (c .before .before .before .before .put-record .ensures) (c .next-start2 .ensures))
+    (λ c. let turn = c .before .before .before .before .before .before .before .before in
+    let end = c .before .before .before .before .before .before .before .levels-end .ensures in
+    omega (arith, c .next-start2 .ensures .within .ahead, end .within .ahead, turn .loop-test .taken))
+    (λ c. let turn = c .before .before .before .before .before .before .before .before in
+    let end = c .before .before .before .before .before .before .before .levels-end .ensures in
+    let room = turn .before .before .before .before .before .before .pre in
+    let put = c .before .before .before .before .put-record .ensures in
+    so-far-one (turn .before .loop .inv) (turn .loop-test .taken) room end put (c .next-start2 .ensures))
     (λ c. c .before .loop .inv .filled .long)
-    (λ c. so-far-all (c .before .loop .inv) (c .loop-test .left) (c .before .before .before .before .before .before .pre)))
+    (λ c. let room = c .before .before .before .before .before .before .pre in
+    so-far-all (c .before .loop .inv) (c .loop-test .left) room))

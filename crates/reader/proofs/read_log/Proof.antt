@@ -14,7 +14,9 @@ read-log-spec =
     (λ c. (log-stray _ _ _ (c .before .before .if1 .left) (sym (c .before .strays .ensures) ∙ c .if2 .taken), relied _))
     (λ c κs. search needs)
     (λ c. search needs)
-    (λ c. let put = c .before .before .put-records .ensures in (
-      log-read _ _ _ (c .before .before .before .before .before .before .if1 .left) (sym (c .before .before .before .before .before .strays .ensures) ∙ c .before .before .before .before .if2 .left) (put .0) (put .1),
+    (λ c. let clean = c .before .before .before .before in
+    let put = c .before .before .put-records .ensures in (
+      log-read _ _ _ (clean .before .before .if1 .left) (sym (clean .before .strays .ensures) ∙ clean .if2 .left)
+          (put .0) (put .1),
       relied _,
     )))

@@ -1,5 +1,4 @@
 use borrow.Author.Needs.{needs}
-use mathlib.Core.Path.{_∙_, ap, sym}
 use borrow.Author.Tests.{eq-eqb, ne-eqb, not-false, not-true}
 use Rattle.reader.specs.Entries.{alikeEntries}
 use Rattle.reader.proofs.entry.alike.Statement.{statement}
@@ -11,11 +10,12 @@ alike-spec =
     tie.close
     (tie.spec
     (λ c κs. search needs)
-    (λ c. simp (← c .before .alike-heads .ensures, not-true (c .before .alike-heads .result) (c .if1 .taken)))
-    (λ c. simp (← c .before .before .before .alike-heads .ensures, not-false (c .before .before .before .alike-heads .result) (c .before .before .if1 .left), ne-eqb _ _ (c .if2 .taken)))
+    (λ c. let heads = c .before .alike-heads in
+    simp (← heads .ensures, not-true (heads .result) (c .if1 .taken)))
+    (λ c. let heads = c .before .before .before .alike-heads in
+    simp (← heads .ensures, not-false (heads .result) (c .before .before .if1 .left), ne-eqb _ _ (c .if2 .taken)))
     (λ c κs. search needs)
-    (λ c. simp (
-      ← c .before .before .before .before .alike-heads .ensures,
-      not-false (c .before .before .before .before .alike-heads .result) (c .before .before .before .if1 .left),
-      eq-eqb _ _ (c .before .if2 .left),
-    ) (c .alike-bytes .ensures)))
+    (λ c. let heads = c .before .before .before .before .alike-heads in
+    let counts = eq-eqb _ _ (c .before .if2 .left) in
+    simp (← heads .ensures, not-false (heads .result) (c .before .before .before .if1 .left), counts)
+    (c .alike-bytes .ensures)))

@@ -1,5 +1,4 @@
 use borrow.Author.Needs.{needs}
-use native.Mathlib.Omega.{arith}
 use Prim.Native.Nat.{_-_}
 use Rattle.reader.proofs.Entries.{Compared, compared-all, compared-here, compared-none, compared-one}
 use Rattle.reader.proofs.entry.alike_bytes.Statement.{statement}
@@ -24,8 +23,12 @@ alike-bytes-spec =
     (λ c. search needs)
     (λ c. search needs)
     (λ c. search needs)
-    (λ c. compared-here (c .before .before .before .before .loop .inv) (c .before .before .before .loop-test .taken) (c .before .before .before .before .before .pre .0) (c .before .before .before .before .before .pre .1) (c .if1 .taken))
+    (λ c. let turn = c .before .before .before in
+    let room = turn .before .before .pre in
+    compared-here (turn .before .loop .inv) (turn .loop-test .taken) (room .0) (room .1) (c .if1 .taken))
     (λ c. search needs)
     (λ c. search needs)
-    (λ c. compared-one (c .before .before .before .before .loop .inv) (c .before .before .before .loop-test .taken) (c .before .before .before .before .before .pre .0) (c .before .before .before .before .before .pre .1) (c .if1 .left))
+    (λ c. let turn = c .before .before .before in
+    let room = turn .before .before .pre in
+    compared-one (turn .before .loop .inv) (turn .loop-test .taken) (room .0) (room .1) (c .if1 .left))
     (λ c. compared-all (c .before .loop .inv) (c .loop-test .left)))

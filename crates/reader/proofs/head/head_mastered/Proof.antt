@@ -13,7 +13,8 @@ head-mastered-spec =
     (λ c. no-slave _ refl (c .before .number .ensures .0) (c .before .before .before .before .pre .1) (c .if1 .taken))
     (λ c κs. search needs)
     (λ c. search needs)
-    (λ c. nak-slave _ refl (c .before .before .before .before .number .ensures .0) (c .before .before .before .before .before .before .before .pre .1) (c .before .before .number2 .ensures .0)
-    (c .before .before .before .if1 .left) (c .if2 .taken))
+    (λ c. let long = c .before .before .before in
+    nak-slave _ refl (long .before .number .ensures .0) (long .before .before .before .before .pre .1)
+    (c .before .before .number2 .ensures .0) (long .if1 .left) (c .if2 .taken))
     (λ c κs. search needs)
     (λ c. search needs))

@@ -34,4 +34,5 @@ eight-levels-spec =
     (λ c. search needs)
     (λ c. search needs)
     (λ c. search needs)
-    (λ c tests. let room = c .before .before .before .before .before .before .before .before .if1 .left in eight-ahead (omega arith) tests))
+    (λ c tests. let room = c .before .before .before .before .before .before .before .before .if1 .left in
+    eight-ahead (omega (arith, room)) tests))

@@ -2,7 +2,8 @@ use borrow.Author.Needs.{needs}
 use native.Mathlib.Omega.{arith}
 use Prim.Native.Nat.{_-_}
 use lib.ListN.{length}
-use Rattle.reader.proofs.Slots.{Followed, followed-ahead, followed-all, followed-here, followed-none, followed-one}
+use Rattle.reader.proofs.Slots.{Followed, followed-ahead, followed-all, followed-here, followed-none}
+use Rattle.reader.proofs.Slots.{followed-one}
 use Rattle.reader.proofs.levels.levels_end.Statement.{statement}
 use Rattle.reader.proofs.levels.levels_end.Tie as tie
 
@@ -28,8 +29,8 @@ levels-end-spec =
     μ-loop2
     (λ c. followed-none _ _ (c .before .pre))
     (λ c κs. search needs)
-    (λ c. let ahead = c .before .eight-levels .ensures (c .if1 .taken) in let there = ahead .there in omega arith)
-    (λ c. let ahead = c .before .eight-levels .ensures (c .if1 .taken) in let there = ahead .there in omega arith)
+    (λ c. omega (arith, c .before .eight-levels .ensures (c .if1 .taken) .there))
+    (λ c. omega (arith, c .before .eight-levels .ensures (c .if1 .taken) .there))
     (λ c. followed-ahead 8 (c .before .before .loop .inv) (c .before .eight-levels .ensures (c .if1 .taken)))
     (λ c. c .before .before .loop .inv)
     (λ c. search needs)
@@ -37,5 +38,6 @@ levels-end-spec =
     (λ c. followed-here (c .before .before .before .loop2 .inv) (c .before .before .loop2-test .taken) (c .if2 .taken))
     (λ c. search needs)
     (λ c. search needs)
-    (λ c. followed-one (c .before .before .before .loop2 .inv) (c .before .before .loop2-test .taken) (omega (arith, c .if2 .left)))
+    (λ c. followed-one (c .before .before .before .loop2 .inv) (c .before .before .loop2-test .taken)
+    (omega (arith, c .if2 .left)))
     (λ c. followed-all (c .before .loop2 .inv) (c .loop2-test .left)))

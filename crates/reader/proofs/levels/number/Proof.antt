@@ -1,14 +1,10 @@
-use native.Mathlib.Omega.{arith}
+use borrow.Author.Needs.{needs}
 use mathlib.Core.Path.{_≡_}
-use borrow.Author.Needs.{needs}
-use borrow.Author.Needs.{needs}
-use Prim.Native.Nat.{_+_, _≤_, _-_}
-use lib.ListN.{length}
-use Rattle.reader.proofs.Slots.{Counted, counted-none, counted-one, counted-fits}
+use native.Mathlib.Omega.{arith}
+use Prim.Native.Nat.{_+_, _-_, _<_, _≤_}
+use Rattle.reader.proofs.Slots.{Counted, counted-fits, counted-none, counted-one}
 use Rattle.reader.proofs.levels.number.Statement.{statement}
 use Rattle.reader.proofs.levels.number.Tie as tie
-use Rattle.reader.proofs.levels.number.Reads as reads
-use Rattle.reader.proofs.levels.number.Lts as lts
 
 abbrev Inv-loop : tie.InvT-loop
 Inv-loop levels from width n₀ i₀ n i = (i ≤ width) × Counted levels from n i
@@ -16,45 +12,11 @@ Inv-loop levels from width n₀ i₀ n i = (i ≤ width) × Counted levels from 
 abbrev μ-loop : tie.MeasureT-loop
 μ-loop levels from width n₀ i₀ n i = width - i
 
--- src/levels.rt:64:5
-loop-holds : tie.Need-loop-holds Inv-loop μ-loop
-loop-holds c = (search needs, counted-none _ _)
-
--- src/levels.rt:65:13
-mul-n : tie.Need-mul-n Inv-loop μ-loop
-mul-n c = let fits = counted-fits (c .before .loop .inv .1) (omega (arith, c .before .loop .inv .0, c .before .before .pre .1)) in search needs
-
--- src/levels.rt:65:28
-add-n : tie.Need-add-n Inv-loop μ-loop
-add-n c = search needs
-
--- src/levels.rt:65:21
-mul-n-2 : tie.Need-mul-n-2 Inv-loop μ-loop
-mul-n-2 c = search needs
-
--- src/levels.rt:65:21
-shared-slice-read-n : tie.Need-shared-slice-read-n Inv-loop μ-loop
-shared-slice-read-n c = search needs
-
--- src/levels.rt:65:13
-add-n-2 : tie.Need-add-n-2 Inv-loop μ-loop
-add-n-2 c = let fits = counted-fits (c .before .before .loop .inv .1) (omega (arith, c .before .before .loop .inv .0, c .before .before .before .pre .1)) in let low = c .before .before .before .pre .2 (c .before .before .before .args .from + c .before .before .loop .i) in search needs
-
--- src/levels.rt:66:9
-add-i : tie.Need-add-i Inv-loop μ-loop
-add-i c = search needs
-
--- src/levels.rt:64:5
-loop-less : tie.Need-loop-less Inv-loop μ-loop
-loop-less c = search needs
-
--- src/levels.rt:64:5
-loop-again : tie.Need-loop-again Inv-loop μ-loop
-loop-again c = (search needs, counted-one (c .before .before .loop .inv .1) (c .before .before .before .pre .2) (omega (arith, c .before .before .before .pre .0, c .before .loop-test .taken)))
-
--- src/levels.rt:58:1
-returns : tie.Need-returns Inv-loop μ-loop
-returns c = let all : c .before .loop .i ≡ c .before .before .args .width = omega arith in rw (← all) (c .before .loop .inv .1 .number, c .before .loop .inv .1 .low)
+-- a number of fewer bits than the whole one
+fits : (c : tie.In-loop Inv-loop μ-loop) → c .before .loop .n < 4096
+fits c =
+    let now = c .before .loop in
+    counted-fits (now .inv .1) (omega (arith, now .inv .0, c .before .before .pre .1))
 
 pub number-spec : {M : Type 1} → statement M
 number-spec =
@@ -62,13 +24,20 @@ number-spec =
     (tie.spec
     Inv-loop
     μ-loop
-    loop-holds
-    mul-n
-    add-n
-    mul-n-2
-    shared-slice-read-n
-    add-n-2
-    add-i
-    loop-less
-    loop-again
-    returns)
+    (λ c. (search needs, counted-none _ _))
+    (λ c. omega (arith, fits c))
+    (λ c. search needs)
+    (λ c. search needs)
+    (λ c. search needs)
+    (λ c. let now = c .before .before .loop in
+    let start = c .before .before .before in
+    omega (arith, fits (c .before), start .pre .2 (start .args .from + now .i)))
+    (λ c. search needs)
+    (λ c. search needs)
+    (λ c. let now = c .before .before .loop in
+    let start = c .before .before .before in
+    let more = c .before .loop-test .taken in
+    (search needs, counted-one (now .inv .1) (start .pre .2) (omega (arith, start .pre .0, more))))
+    (λ c. let now = c .before .loop in
+    let all : now .i ≡ c .before .before .args .width = omega arith in
+    rw (← all) (now .inv .1 .number, now .inv .1 .low)))

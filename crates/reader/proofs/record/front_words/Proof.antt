@@ -1,4 +1,3 @@
-use borrow.Author.Needs.{needs}
 use borrow.Author.Tests.{le-ltb, lt-ltb}
 use Rattle.reader.proofs.record.front_words.Statement.{statement}
 use Rattle.reader.proofs.record.front_words.Tie as tie

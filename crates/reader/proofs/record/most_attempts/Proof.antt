@@ -18,17 +18,18 @@ most-attempts-spec =
     tie.close
     (tie.spec
     (λ c κs. search needs)
-    (λ c. (simp (ne-eqb _ _ (c .if1 .taken)) (c .before .limit .ensures), rw (c .before .limit .ensures) (limit-most (c .before .before .args .long))))
+    (λ c. let is = c .before .limit .ensures in
+    (simp (ne-eqb _ _ (c .if1 .taken)) is, rw is (limit-most (c .before .before .args .long))))
     (λ c. let is = c .before .before .limit .ensures in
-    let low : pick (c .before .before .before .args .long) 32 16 ≤ c .before .before .before .args .bytes
-    = omega (arith, is, c .if2 .taken) in (
+    let args = c .before .before .before .args in
+    let low : pick (args .long) 32 16 ≤ args .bytes = omega (arith, is, c .if2 .taken) in (
       simp (eq-eqb _ _ (c .before .if1 .left)) (is ∙ sym (min-eq-right low)),
-      rw is (limit-most (c .before .before .before .args .long)),
+      rw is (limit-most (args .long)),
     ))
     (λ c. let is = c .before .before .limit .ensures in
     let within = c .if2 .left in
-    let low : c .before .before .before .args .bytes ≤ pick (c .before .before .before .args .long) 32 16
-    = omega (arith, is, within) in (
+    let args = c .before .before .before .args in
+    let low : args .bytes ≤ pick (args .long) 32 16 = omega (arith, is, within) in (
       simp (eq-eqb _ _ (c .before .if1 .left)) (sym (min-eq-left low)),
-      omega (arith, within, is, limit-most (c .before .before .before .args .long)),
+      omega (arith, within, is, limit-most (args .long)),
     )))

@@ -1,5 +1,5 @@
 use borrow.Author.Needs.{needs}
-use mathlib.Core.Path.{_∙_, ap, ap₂, sym}
+use mathlib.Core.Path.{_∙_, ap}
 use borrow.Author.Tests.{eq-eqb, ne-eqb}
 use Prim.Native.Nat.{ℕ, _+_}
 use lib.Dec.{eqb}
@@ -18,8 +18,11 @@ is-acked-spec =
     (λ c. search needs)
     (λ c κs. search needs)
     (λ c. let entry = c .before .before .before .before in
-    simp (eq-eqb _ _ (c .before .before .if1 .taken), getD-drop (entry .args .from) (entry .args .levels .now) 8 0)
-    (c .parity-holds .ensures .0 ∙ ap (λ (x : ℕ). parityHolds x (eqb (getD (entry .args .levels .now) (entry .args .from + 8) 0) 1)) (entry .pre .1)))
+    let from = entry .args .from in
+    let levels = entry .args .levels .now in
+    simp (eq-eqb _ _ (c .before .before .if1 .taken), getD-drop from levels 8 0)
+    (c .parity-holds .ensures .0
+    ∙ ap (λ (x : ℕ). parityHolds x (eqb (getD levels (from + 8) 0) 1)) (entry .pre .1)))
     (λ c. search needs)
     (λ c. search needs)
     (λ c. search needs)

@@ -1,4 +1,3 @@
-use borrow.Author.Needs.{needs}
 use borrow.Author.Tests.{eq-eqb, ne-eqb}
 use Rattle.reader.proofs.text.text_ending.Statement.{statement}
 use Rattle.reader.proofs.text.text_ending.Tie as tie
