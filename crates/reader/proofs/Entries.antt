@@ -1,23 +1,21 @@
 -- The frame before against the frame at hand: the code's comparison is the one of the readings.
 use mathlib.Core.Bool.{Bool, true, false, _&&_}
-use mathlib.Core.Logic.{⊎-elim}
 use mathlib.Core.Path.{_≡_, refl, sym, ap, ap₂, _∙_}
-use mathlib.Core.List.{List, [], _∷_, map}
+use mathlib.Core.List.{List, _∷_, map}
 use Prim.Native.Nat.{ℕ, zero, suc, _+_, _-_, _%_, _<_, _≤_}
 use native.Mathlib.Nat.{add-zero}
 use native.Mathlib.Omega.{arith}
 use borrow.Author.Tests.{eq-eqb, eqb-true, ne-eqb}
 use lib.Dec.{eqb}
-use lib.ListN.{List·getD-eq-default, drop, getD, length, length-map, take}
-use lib.Seq.{drop-cons, ext-getD}
+use lib.ListN.{List·getD-eq-default, getD, length, length-map, take}
+use lib.Seq.{ext-getD}
 use Rattle.line.proofs.Either.{both}
 use Rattle.line.specs.Cases.{same}
 use Rattle.logs.proofs.Again.{equal-exactly, same-lists, same-self}
 use Rattle.logs.specs.Data.{Acked}
-use Rattle.logs.specs.Log.{SaysAgain}
-use Rattle.logs.specs.Readings.{Reading, bytesIn, equalFrames}
+use Rattle.logs.specs.Readings.{Reading, equalFrames}
+use Rattle.reader.proofs.Parts.{cut}
 use Rattle.reader.specs.declared.entry.Entry.{Entry}
-use Rattle.reader.specs.declared.head.Head.{Head}
 use Rattle.reader.specs.Entries.{Stands, alikeEntries, alikeHeads, bytesFrom}
 use Rattle.reader.specs.Heads.{headIn}
 
@@ -40,10 +38,10 @@ next-byte : (records : List ℕ) (a count i : ℕ) → i < count → a + count �
     ≡ getD records (a + i) 0 % 0x100 ∷ bytesFrom records (a + (i + 1)) (count - (i + 1))
 next-byte records a count i more inside =
     let one : count - i ≡ suc (count - (i + 1)) = omega arith in
-    let next : suc (a + i) ≡ a + (i + 1) = omega arith in
+    let next : a + i + 1 ≡ a + (i + 1) = omega arith in
     ap (λ (n : ℕ). bytesFrom records (a + i) n) one
     ∙ ap (λ (l : List ℕ). map (λ (word : ℕ). word % 0x100) (take (suc (count - (i + 1))) l))
-    (drop-cons records (a + i) 0 (omega arith))
+    (cut records (a + i) (omega arith))
     ∙ ap (λ (n : ℕ). getD records (a + i) 0 % 0x100 ∷ bytesFrom records n (count - (i + 1))) next
 
 module _ {records : List ℕ} {a b count i : ℕ} (c : Compared records a b count i) (more : i < count)

@@ -1,4 +1,5 @@
 -- The laws that the reader's loops and writes go by.
+pub mod Parts
 pub mod Slots
 pub mod Pasting
 pub mod Heads

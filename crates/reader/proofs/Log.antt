@@ -2,23 +2,24 @@
 use mathlib.Core.Bool.{Bool, true, false}
 use mathlib.Core.Path.{_≡_, refl, sym, ap, ap₂, _∙_}
 use mathlib.Core.List.{List, [], _∷_, _++_, append-assoc, append-nil, map}
-use Prim.Native.Nat.{ℕ, zero, suc, _+_, _-_, _<_, _≤_}
-use native.Mathlib.Numerals.{add-one}
+use Prim.Native.Nat.{ℕ, _+_, _-_, _<_, _≤_}
 use native.Mathlib.Omega.{arith}
 use borrow.Author.Tests.{eq-eqb, le-ltb, lt-ltb}
 use lib.Dec.{ltb}
-use lib.ListN.{drop, drop-of-length-le, getD, length, length-append, length-drop, take}
-use lib.Seq.{drop-cons, drop-drop, length-take-le, take-at}
+use lib.ListN.{drop, drop-of-length-le, getD, length, length-drop, take}
+use lib.Seq.{drop-drop, length-take-le, take-at}
 use Rattle.line.proofs.Filled.{Filled, all-filled, nothing-filled}
 use Rattle.line.specs.Numbers.{slotStart}
 use Rattle.logs.proofs.Frames.{levels-low}
 use Rattle.logs.proofs.Readings.{record-fits}
 use Rattle.logs.specs.declared.LogRead.the-variants.{Frames, NoSlot, ShortList}
-use Rattle.logs.specs.Frames.{Low, framesOf, levelsFrom, strayIn}
+use Rattle.logs.specs.Frames.{Low, framesOf, strayIn}
 use Rattle.logs.specs.Log.{ReadLog, endOf, writtenOf}
-use Rattle.logs.specs.Readings.{Reading, readOf}
-use Rattle.logs.specs.Records.{Before, Record, againAfter, frame, markedAfter, none, recordWords, recordsOf, wordsOf}
-use Rattle.reader.proofs.Pasting.{paste-before, paste-behind, paste-length}
+use Rattle.logs.specs.Readings.{readOf}
+use Rattle.logs.specs.Records.{Before, againAfter, frame, markedAfter, none, recordWords, recordsOf, wordsOf}
+use Rattle.reader.proofs.Parts.{cut}
+use Rattle.reader.proofs.Pasting.{paste-behind, paste-end, paste-length}
+use Rattle.reader.proofs.Records.{recordOf}
 use Rattle.reader.specs.declared.entry.Entry.{Entry}
 use Rattle.reader.specs.Reading.{LevelsEnd, NextStart}
 use Rattle.reader.specs.Records.{RecordPut, StandsBefore}
@@ -29,13 +30,12 @@ piece-filled : {whole first now rest : List ℕ} {i : ℕ} (piece : List ℕ) �
     → i + length piece ≤ length now
     → Filled whole first (pasted now i piece) rest (i + length piece)
 piece-filled {whole} {first} {now} {rest} {i} piece f room =
-    let front : length (take i now ++ piece) ≡ i + length piece
-    = length-append (take i now) piece ∙ rw (length-take-le i now (omega arith)) in
+    let place = i + length piece in
     record {
       split =
           f .split ∙ sym (append-assoc (take i now) piece rest)
           ∙ ap (λ (l : List ℕ). l ++ rest)
-          (sym (take-at (take i now ++ piece) (drop (i + length piece) now) (i + length piece) front));
+          (sym (take-at (take i now ++ piece) (drop place now) place (paste-end now piece i (omega arith))));
       kept =
           paste-behind now piece i (omega arith)
           ∙ sym (drop-drop (length piece) i now) ∙ ap (drop (length piece)) (f .kept)
@@ -97,27 +97,29 @@ module _ {long : Bool} {slots first records : List ℕ} {frames next : ℕ} {ent
   frames-there : framesOf (drop at slots) ≡ levels ∷ framesOf (drop end slots)
   unfolding framesOf
   frames-there =
-      ap framesOf (drop-cons slots at 0 more ∙ ap (λ (n : ℕ). getD slots at 0 ∷ drop n slots) (sym (add-one at)))
+      ap framesOf (cut slots at more)
       ∙ simp (eq-eqb (getD slots at 0) slotStart (s .there more))
       (ap₂ (λ (l : List ℕ) (ls : List (List ℕ)). l ∷ ls) (e .levels) (e .passed))
 
   words-there : wordsFrom long (s .before) slots at
-      ≡ recordWords (record { again = againAfter (s .before) (readOf long levels); reading = readOf long levels })
+      ≡ recordWords (recordOf long levels (againAfter (s .before) (readOf long levels)))
       ++ wordsFrom long (frame (readOf long levels)) slots end
   unfolding wordsOf markedAfter
   words-there = ap (λ (ls : List (List ℕ)). wordsOf (markedAfter (s .before) (map (readOf long) ls))) frames-there
 
-  pub next-ahead : {newer : Entry} {after : List ℕ} → RecordPut long levels next entry (ltb 0 frames) records newer after
+  pub next-ahead : {newer : Entry} {after : List ℕ}
+      → RecordPut long levels next entry (ltb 0 frames) records newer after
       → newer .bytes + newer .acked ≤ end
   next-ahead put =
       omega (arith, put .ends false, record-fits long levels false, levels-long, s .ahead, e .within .ahead)
 
-  pub so-far-one : {newer : Entry} {after : List ℕ} → RecordPut long levels next entry (ltb 0 frames) records newer after
+  pub so-far-one : {newer : Entry} {after : List ℕ}
+      → RecordPut long levels next entry (ltb 0 frames) records newer after
       → {start : ℕ} → NextStart slots end start
       → SoFar long slots first after (frames + 1) (newer .bytes + newer .acked) newer start
   so-far-one {newer} {after} put {start} n =
       let mark = againAfter (s .before) (readOf long levels) in
-      let words = recordWords (record { again = mark; reading = readOf long levels }) in
+      let words = recordWords (recordOf long levels mark) in
       let fits = record-fits long levels mark in
       let ends = put .ends mark in
       record {

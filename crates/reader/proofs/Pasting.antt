@@ -1,28 +1,17 @@
 -- A piece written over a list: word by word, a piece in front of another, and what stands beside it.
 use mathlib.Core.Path.{_≡_, sym, ap, ap₂, _∙_}
-use mathlib.Core.List.{List, [], _∷_, _++_, append-assoc, append-nil}
+use mathlib.Core.List.{List, [], _∷_, _++_, append-assoc}
 use Prim.Native.Nat.{ℕ, suc, _+_, _<_, _≤_}
-use native.Mathlib.Nat.{add-zero}
+use native.Mathlib.Numerals.{add-one}
 use native.Mathlib.Omega.{arith}
-use lib.ListN.{drop, getD, length, length-append, length-drop, set, take, take-append-drop}
-use lib.Seq.{append-snoc, drop-append-add, drop-at, drop-cons, drop-drop, length-take-le, set-at, take-add, take-append-le}
-use lib.Seq.{take-at, take-take}
+use lib.ListN.{drop, getD, length, length-append, set, take}
+use lib.Seq.{append-snoc, drop-at, drop-cons, length-sets, length-take-le, set-at, sets-eq, take-append-le, take-take}
 use Rattle.reader.specs.Texts.{pasted}
 
--- so many elements from a place on are those of the front that ends with them
-pub part : (l : List ℕ) (place count : ℕ) → place ≤ length l → take count (drop place l) ≡ drop place (take (place + count) l)
-part l place count inside =
-    sym (ap (drop place) (take-add place count l)
-    ∙ drop-at (take place l) (take count (drop place l)) place (length-take-le place l inside))
-
-pub paste-none : (before : List ℕ) (at : ℕ) → before ≡ pasted before at []
-paste-none before at =
-    sym (rw (add-zero at) (ap (λ (l : List ℕ). l ++ drop at before) (append-nil (take at before))
-    ∙ take-append-drop at before))
-
 -- what stands up to the end of a piece
-front-length : (before piece : List ℕ) (at : ℕ) → at ≤ length before → length (take at before ++ piece) ≡ at + length piece
-front-length before piece at inside = length-append (take at before) piece ∙ rw (length-take-le at before inside)
+pub paste-end : (before piece : List ℕ) (at : ℕ) → at ≤ length before
+    → length (take at before ++ piece) ≡ at + length piece
+paste-end before piece at inside = length-append (take at before) piece ∙ rw (length-take-le at before inside)
 
 pub paste-one : (before piece : List ℕ) (at word : ℕ) → at + length piece < length before
     → set (pasted before at piece) (at + length piece) word ≡ pasted before at (piece ++ word ∷ [])
@@ -31,7 +20,7 @@ paste-one before piece at word room =
     let front = take at before ++ piece in
     let longer : at + length (piece ++ word ∷ []) ≡ suc place = omega (arith, length-append piece (word ∷ [])) in
     ap (λ (l : List ℕ). set (front ++ l) place word) (drop-cons before place 0 room)
-    ∙ set-at front (getD before place 0) (drop (suc place) before) word place (front-length before piece at (omega arith))
+    ∙ set-at front (getD before place 0) (drop (suc place) before) word place (paste-end before piece at (omega arith))
     ∙ sym (append-snoc front word (drop (suc place) before))
     ∙ ap (λ (l : List ℕ). l ++ drop (suc place) before) (append-assoc (take at before) piece (word ∷ []))
     ∙ ap (λ (n : ℕ). take at before ++ (piece ++ word ∷ []) ++ drop n before) (sym longer)
@@ -50,15 +39,11 @@ pub paste-behind : (before piece : List ℕ) (at : ℕ) → at ≤ length before
     → drop (at + length piece) (pasted before at piece) ≡ drop (at + length piece) before
 paste-behind before piece at inside =
     drop-at (take at before ++ piece) (drop (at + length piece) before) (at + length piece)
-    (front-length before piece at inside)
+    (paste-end before piece at inside)
 
 pub paste-length : (before piece : List ℕ) (at : ℕ) → at + length piece ≤ length before
     → length (pasted before at piece) ≡ length before
-paste-length before piece at room =
-    let split = length-append (take at before ++ piece) (drop (at + length piece) before) in
-    let front = front-length before piece at (omega arith) in
-    let rest = length-drop (at + length piece) before in
-    omega arith
+paste-length before piece at room = ap length (sym (sets-eq piece before at room)) ∙ length-sets before at piece
 
 -- from the place of a piece on: the piece, and what stood behind it
 pub paste-there : (before piece : List ℕ) (at : ℕ) → at ≤ length before
@@ -80,13 +65,10 @@ paste-front before front piece at inside =
     ∙ ap (λ (n : ℕ). take at before ++ (front ++ piece) ++ drop n before) all
 
 -- one word, and two
-pub paste-word : (before : List ℕ) (at word : ℕ) → at < length before → set before at word ≡ pasted before at (word ∷ [])
-paste-word before at word room =
-    ap₂ (λ (l : List ℕ) (n : ℕ). set l n word) (paste-none before at) (sym (add-zero at))
-    ∙ paste-one before [] at word (omega arith)
+pub paste-word : (before : List ℕ) (at word : ℕ) → at < length before
+    → set before at word ≡ pasted before at (word ∷ [])
+paste-word before at word room = sets-eq (word ∷ []) before at (omega arith)
 
 pub paste-words : (before : List ℕ) (at word next : ℕ) → at + 1 < length before
     → set (set before at word) (at + 1) next ≡ pasted before at (word ∷ next ∷ [])
-paste-words before at word next room =
-    ap (λ (l : List ℕ). set l (at + 1) next) (paste-word before at word (omega arith))
-    ∙ paste-one before (word ∷ []) at next room
+paste-words before at word next room = rw (add-one at) (sets-eq (word ∷ next ∷ []) before at (omega arith))

@@ -11,17 +11,13 @@ use borrow.Author.Tests.{le-ltb, leb-true, lt-ltb, ne-eqb}
 use lib.Dec.{leb, ltb}
 use lib.ListN.{drop, drop-of-length-le, getD, length, length-drop, take}
 use lib.Pow.{pow-mono}
-use lib.Seq.{drop-append-le, drop-cons, drop-drop, getD-drop, length-take-le, slice, slice-empty, take-suc}
+use lib.Seq.{getD-drop, slice, slice-empty, take-suc}
 use Rattle.line.proofs.Either.{both}
 use Rattle.line.specs.Numbers.{slotIdle, slotStart}
 use Rattle.logs.specs.Fields.{numberFrom}
 use Rattle.logs.specs.Frames.{Low, framesOf, levelsFrom, strayIn}
-use Rattle.reader.proofs.Pasting.{part}
+use Rattle.reader.proofs.Parts.{cut, part, slice-more}
 use Rattle.reader.specs.Reading.{LevelsAhead, LevelsEnd, NextStart, Within}
-
--- the slots from a place on: the one there, and those behind it
-cut : (slots : List ℕ) (i : ℕ) → i < length slots → drop i slots ≡ getD slots i 0 ∷ drop (i + 1) slots
-cut slots i more = drop-cons slots i 0 more ∙ rw (add-one i)
 
 -- ---- strays
 
@@ -85,15 +81,6 @@ followed-none slots from h =
       searched = searched-none slots from h;
       levels = ap (λ (l : List ℕ). l ++ levelsFrom (drop from slots)) (sym (slice-empty from slots));
     }
-
--- a part with one slot more
-slice-more : (slots : List ℕ) (from i : ℕ) → from ≤ i → i < length slots
-    → slice from (i + 1) slots ≡ slice from i slots ++ getD slots i 0 ∷ []
-slice-more slots from i ahead more =
-    let long : length (take i slots) ≡ i = length-take-le i slots (omega arith) in
-    ap (λ (n : ℕ). drop from (take n slots)) (add-one i)
-    ∙ ap (drop from) (take-suc slots i 0 more)
-    ∙ drop-append-le from (take i slots) (getD slots i 0 ∷ []) (omega (arith, long))
 
 pub followed-one : {slots : List ℕ} {from i : ℕ} → Followed slots from i → i < length slots
     → getD slots i 0 < slotStart → Followed slots from (i + 1)

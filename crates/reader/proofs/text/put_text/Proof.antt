@@ -1,8 +1,10 @@
 use borrow.Author.Needs.{needs}
-use native.Mathlib.Omega.{arith}
 use mathlib.Core.Logic.{⊎-elim}
 use mathlib.Core.Path.{_∙_, sym}
-use Rattle.reader.proofs.Texts.{Going, going-acked, going-all, going-missed, going-none, going-room, goes}
+use native.Mathlib.Omega.{arith}
+use Prim.Native.Nat.{_+_, _<_}
+use lib.ListN.{length}
+use Rattle.reader.proofs.Texts.{Goes, Going, goes, going-acked, going-all, going-missed, going-none, going-room}
 use Rattle.reader.proofs.text.put_text.Statement.{statement}
 use Rattle.reader.proofs.text.put_text.Tie as tie
 
@@ -13,6 +15,16 @@ Inv-loop levels bit bytes most records₀ at from₀ left₀ missing₀ since₀
 abbrev μ-loop : tie.MeasureT-loop
 μ-loop levels bit bytes most records₀ at from₀ left₀ missing₀ since₀ acked₀ records from left missing since acked = left
 
+module _ (c : tie.In-loop Inv-loop μ-loop) where
+  abbrev start : tie.Start Inv-loop μ-loop
+  start = c .before .before .before .before
+
+  turn : Goes (start .args .levels .now) (c .before .loop .from) (c .before .loop .left) (c .before .loop .missing)
+  turn = goes (c .loop-test .taken)
+
+  room : start .args .at + c .before .loop .acked < length (c .before .loop .records)
+  room = going-room (c .before .loop .inv) turn (start .pre .1)
+
 pub put-text-spec : {M : Type 1} → statement M
 put-text-spec =
     tie.close
@@ -21,73 +33,30 @@ put-text-spec =
     μ-loop
     (λ c. going-none _ _ _ _ _ _ (c .before .before .pre .0 .1))
     (λ c. omega (arith, c .loop .inv .inside))
-    (λ c κs. let now = c .before .loop in
-    let t = goes (c .before .before .before .before .args .levels .now) (now .from) (now .left) (now .missing) (c .loop-test .taken) in
-    (omega (arith, t .whole), omega arith, c .before .before .before .before .pre .0 .0))
-    (λ c. let limit = c .before .before .before .before .before .pre .0 .2 in
-    omega (arith, c .before .before .loop .inv .made, limit))
-    (λ c κs. let now = c .before .before .loop in
-    let t = goes (c .before .before .before .before .before .args .levels .now) (now .from) (now .left) (now .missing) (c .before .loop-test .taken) in (t .whole, c .number .ensures .0))
+    (λ c κs. (omega (arith, turn c .whole), omega arith, start c .pre .0 .0))
+    (λ c. omega (arith, c .before .before .loop .inv .made, start (c .before) .pre .0 .2))
+    (λ c κs. (turn (c .before) .whole, c .number .ensures .0))
+    (λ c. let turn = c .before .before .before in
+    omega (arith, turn .before .loop .inv .made, start turn .pre .0 .2))
+    (λ c. let turn = c .before .before .before in
+    let byte = c .before .before .number .ensures .1 in
+    omega (arith, turn .before .loop .inv .made, start turn .pre .0 .2, byte))
+    (λ c. omega (arith, room (c .before .before .before)))
+    (λ c. omega (arith, room (c .before .before .before)))
+    (λ c. room (c .before .before .before))
+    (λ c. omega (arith, room (c .before .before .before)))
+    (λ c. omega (arith, turn (c .before .before .before) .wanted))
+    (λ c. omega (arith, turn (c .before .before .before) .some))
+    (λ c. omega (arith, turn (c .before .before .before) .whole))
+    (λ c. omega (arith, turn (c .before .before .before) .some))
     (λ c. let g = c .before .before .before .before .loop .inv in
-    let now = c .before .before .before .before .loop in
-    let t = goes (c .before .before .before .before .before .before .before .args .levels .now) (now .from) (now .left) (now .missing) (c .before .before .before .loop-test .taken) in
-    let pre = c .before .before .before .before .before .before .before .pre in
-    omega (arith, g .made, pre .0 .2))
-    (λ c. let g = c .before .before .before .before .loop .inv in
-    let now = c .before .before .before .before .loop in
-    let t = goes (c .before .before .before .before .before .before .before .args .levels .now) (now .from) (now .left) (now .missing) (c .before .before .before .loop-test .taken) in
-    let pre = c .before .before .before .before .before .before .before .pre in
-    omega (arith, g .made, pre .0 .2, c .before .before .number .ensures .1))
-    (λ c. let g = c .before .before .before .before .loop .inv in
-    let now = c .before .before .before .before .loop in
-    let t = goes (c .before .before .before .before .before .before .before .args .levels .now) (now .from) (now .left) (now .missing) (c .before .before .before .loop-test .taken) in
-    let pre = c .before .before .before .before .before .before .before .pre in
-    omega (arith, going-room g t (pre .1)))
-    (λ c. let g = c .before .before .before .before .loop .inv in
-    let now = c .before .before .before .before .loop in
-    let t = goes (c .before .before .before .before .before .before .before .args .levels .now) (now .from) (now .left) (now .missing) (c .before .before .before .loop-test .taken) in
-    let pre = c .before .before .before .before .before .before .before .pre in
-    omega (arith, going-room g t (pre .1)))
-    (λ c. let g = c .before .before .before .before .loop .inv in
-    let now = c .before .before .before .before .loop in
-    let t = goes (c .before .before .before .before .before .before .before .args .levels .now) (now .from) (now .left) (now .missing) (c .before .before .before .loop-test .taken) in
-    let pre = c .before .before .before .before .before .before .before .pre in
-    going-room g t (pre .1))
-    (λ c. let g = c .before .before .before .before .loop .inv in
-    let now = c .before .before .before .before .loop in
-    let t = goes (c .before .before .before .before .before .before .before .args .levels .now) (now .from) (now .left) (now .missing) (c .before .before .before .loop-test .taken) in
-    let pre = c .before .before .before .before .before .before .before .pre in
-    omega (arith, going-room g t (pre .1)))
-    (λ c. let g = c .before .before .before .before .loop .inv in
-    let now = c .before .before .before .before .loop in
-    let t = goes (c .before .before .before .before .before .before .before .args .levels .now) (now .from) (now .left) (now .missing) (c .before .before .before .loop-test .taken) in
-    let pre = c .before .before .before .before .before .before .before .pre in
-    omega (arith, t .wanted))
-    (λ c. let g = c .before .before .before .before .loop .inv in
-    let now = c .before .before .before .before .loop in
-    let t = goes (c .before .before .before .before .before .before .before .args .levels .now) (now .from) (now .left) (now .missing) (c .before .before .before .loop-test .taken) in
-    let pre = c .before .before .before .before .before .before .before .pre in
-    omega (arith, t .some))
-    (λ c. let g = c .before .before .before .before .loop .inv in
-    let now = c .before .before .before .before .loop in
-    let t = goes (c .before .before .before .before .before .before .before .args .levels .now) (now .from) (now .left) (now .missing) (c .before .before .before .loop-test .taken) in
-    let pre = c .before .before .before .before .before .before .before .pre in
-    omega (arith, t .whole))
-    (λ c. let g = c .before .before .before .before .loop .inv in
-    let now = c .before .before .before .before .loop in
-    let t = goes (c .before .before .before .before .before .before .before .args .levels .now) (now .from) (now .left) (now .missing) (c .before .before .before .loop-test .taken) in
-    let pre = c .before .before .before .before .before .before .before .pre in
-    omega (arith, t .some))
-    (λ c. let g = c .before .before .before .before .loop .inv in
-    let now = c .before .before .before .before .loop in
-    let t = goes (c .before .before .before .before .before .before .before .args .levels .now) (now .from) (now .left) (now .missing) (c .before .before .before .loop-test .taken) in
-    let pre = c .before .before .before .before .before .before .before .pre in
+    let t = turn (c .before .before .before) in
+    let counted = sym (c .before .is-acked .ensures) in
     ⊎-elim
     (λ went. rw (went .1, went .2, went .3, went .4)
-    (going-acked g t (sym (c .before .is-acked .ensures) ∙ went .0 .taken) (c .before .before .number .ensures .0)
-    (going-room g t (pre .1))))
-    (λ went. rw (went .1, went .2, went .3, went .4)
-    (going-missed g t (sym (c .before .is-acked .ensures) ∙ went .0 .left)))
+    (going-acked g t (counted ∙ went .0 .taken) (c .before .before .number .ensures .0)
+    (room (c .before .before .before))))
+    (λ went. rw (went .1, went .2, went .3, went .4) (going-missed g t (counted ∙ went .0 .left)))
     (c .if1 .came))
     (λ c κs. search needs)
     (λ c. c .before .before .loop .inv .long)
