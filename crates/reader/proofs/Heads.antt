@@ -18,19 +18,19 @@ pub record Told (fs : List Field) (levels given : List ℕ) (ending : ℕ) : Typ
   pub ends : endIn fs levels ≡ ending
 
 module _ {levels : List ℕ} (f : Field) (fs : List Field) where
-  pub broken-off : length levels < f .end → Told (f ∷ fs) levels [] (f .broken)
+  broken-off : length levels < f .end → Told (f ∷ fs) levels [] (f .broken)
   unfolding givenIn endIn
   broken-off short =
       let cut = lt-ltb (length levels) (f .end) short in
       record { gives = simp cut; ends = simp cut }
 
-  pub nak-there : f .end ≤ length levels → naked levels f ≡ true → Told (f ∷ fs) levels (valueIn levels f ∷ []) (f .nak)
+  nak-there : f .end ≤ length levels → naked levels f ≡ true → Told (f ∷ fs) levels (valueIn levels f ∷ []) (f .nak)
   unfolding givenIn endIn
   nak-there long nak =
       let whole = le-ltb (length levels) (f .end) long in
       record { gives = simp (whole, nak); ends = simp (whole, nak) }
 
-  pub read-on : {given : List ℕ} {ending : ℕ} → f .end ≤ length levels → naked levels f ≡ false
+  read-on : {given : List ℕ} {ending : ℕ} → f .end ≤ length levels → naked levels f ≡ false
       → Told fs levels given ending
       → Told (f ∷ fs) levels (valueIn levels f ∷ given) ending
   unfolding givenIn endIn
@@ -42,7 +42,7 @@ nothing-more : {levels : List ℕ} → Told [] levels [] endBrokenData
 unfolding givenIn endIn
 nothing-more = record { gives = refl; ends = refl }
 
-pub told-head : {levels given : List ℕ} {ending : ℕ} → Told header levels given ending
+told-head : {levels given : List ℕ} {ending : ℕ} → Told header levels given ending
     → headIn given ending ≡ headOf levels
 unfolding headOf
 told-head {levels} {given} {ending} t = rw (t .gives, t .ends)

@@ -109,7 +109,7 @@ pub front-most : (levels : List ℕ) {head : Head} → head ≡ headOf levels �
 front-most levels {head} is =
     rw is (omega (arith, words-counted false levels false, record-fits false levels false))
 
--- a record is being put from a place on: so many words are left free for those before the bytes, which are written
+-- a record is being put from a place on: its bytes are written, behind room for the words that stand before them
 pub record Putting (long : Bool) (levels : List ℕ) (at : ℕ) (before : List ℕ) (head : Head) (front : ℕ) (body : Body)
     (middle : List ℕ) : Type 0 where
   pub low : Low levels
