@@ -335,20 +335,22 @@ enum {
 };
 
 /* The fields of a first word. A field is given where all its slots are on the line (iebus_record_fields), else it is 0;
-   the broadcast bit is as on the line, 0 for a broadcast. */
+   the broadcast bit is as on the line, 0 for a broadcast. Attempts are complete ones, with their A slot; those after
+   the last ACKed byte are all that were made where none was ACKed. */
 #define IEBUS_RECORD_END(first) ((unsigned)((uint32_t)(first) & 0xF))
 #define IEBUS_RECORD_AGAIN(first) ((unsigned)((uint32_t)(first) >> 4 & 1))       /* says what the frame before said */
 #define IEBUS_RECORD_BIT(first) ((unsigned)((uint32_t)(first) >> 5 & 1))
 #define IEBUS_RECORD_CONTROL(first) ((unsigned)((uint32_t)(first) >> 6 & 0xF))
 #define IEBUS_RECORD_LENGTH(first) ((unsigned)((uint32_t)(first) >> 10 & 0x1FF)) /* 1 to 256 */
 #define IEBUS_RECORD_ACKED(first) ((unsigned)((uint32_t)(first) >> 19 & 0x3F))   /* how many bytes, 0 to 32 */
-#define IEBUS_RECORD_UNACKED(first) ((unsigned)((uint32_t)(first) >> 25 & 0x3F)) /* complete attempts after them */
+#define IEBUS_RECORD_UNACKED(first) ((unsigned)((uint32_t)(first) >> 25 & 0x3F)) /* attempts after them, 0 to 32 */
 
 /* Of a second word. */
 #define IEBUS_RECORD_MASTER(second) ((unsigned)((uint32_t)(second) & 0xFFF))
 #define IEBUS_RECORD_SLAVE(second) ((unsigned)((uint32_t)(second) >> 12 & 0xFFF))
 
-/* Of a byte's word: the byte, and the complete attempts from the ACKed byte before it up to this one, 1 to 32. */
+/* Of a byte's word: the byte, and the attempts that it took, from the ACKed byte before it on or, for the first one,
+   from the first attempt on, up to and with the one that was ACKed, 1 to 32. */
 #define IEBUS_RECORD_BYTE(word) ((uint8_t)((uint32_t)(word) & 0xFF))
 #define IEBUS_RECORD_ATTEMPTS(word) ((unsigned)((uint32_t)(word) >> 8 & 0x3F))
 

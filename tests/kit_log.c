@@ -5,7 +5,7 @@
 #include "check.h"
 #include "iebus.h"
 
-enum { ROOM = 2048, MASTER = 0x123, SLAVE = 0x456, CONTROL = IEBUS_CONTROL_DATA, BYTE = 0xA5, UNTOUCHED = 0x5A5A5A5A };
+enum { ROOM = 4096, MASTER = 0x123, SLAVE = 0x456, CONTROL = IEBUS_CONTROL_DATA, BYTE = 0xA5, UNTOUCHED = 0x5A5A5A5A };
 
 /* Where a frame ends among its levels: behind the start, and behind each of its five fields. */
 static const size_t field_ends[] = {0, 1, 14, 28, 34, 44};
@@ -31,6 +31,23 @@ static void put_field(struct log *log, unsigned value, unsigned bits, int answer
     put(log, ones & 1);
     if (answer >= 0)
         put(log, (uint32_t)answer);
+}
+
+/* A frame up to its length, to one slave or to all; nobody answers a broadcast. */
+static void put_header(struct log *log, unsigned bit, unsigned length)
+{
+    put(log, IEBUS_SLOT_START);
+    put(log, bit);
+    put_field(log, 0xFFF - MASTER, 12, -1);
+    put_field(log, 0xFFF - SLAVE, 12, bit == 0);
+    put_field(log, 0xF - CONTROL, 4, bit == 0);
+    put_field(log, length, 8, bit == 0);
+}
+
+static void put_bytes(struct log *log, unsigned count, unsigned answer)
+{
+    for (unsigned i = 0; i < count; i++)
+        put_field(log, 0xFF - i, 8, (int)answer);
 }
 
 /* A frame to one slave whose `nak` th answered field, 1 to 3, gets NAK (0: none), cut to so many levels, then idle. */
@@ -107,6 +124,52 @@ static void walk(const uint32_t *record)
     check("the walk ends behind the last record", *record == UNTOUCHED);
 }
 
+/* Every field at its largest, where the frames before have it small: 256 bytes, 32 of them ACKed, and once more; one
+   byte at its 32nd attempt; 32 attempts in vain; a broadcast. */
+static struct log long_frames(void)
+{
+    struct log log;
+    log.count = 0;
+    for (int twice = 0; twice < 2; twice++) {
+        put_header(&log, 1, 0);
+        put_bytes(&log, 32, 0);
+    }
+    put_header(&log, 1, 255);
+    put_bytes(&log, 31, 1);
+    put_bytes(&log, 1, 0);
+    put_header(&log, 1, 1);
+    put_bytes(&log, 32, 1);
+    put_header(&log, 0, 2);
+    put_bytes(&log, 2, 1);
+    return log;
+}
+
+static bool broadcast_comes_back(const uint32_t *record)
+{
+    return IEBUS_RECORD_BIT(record[0]) == 0 && IEBUS_RECORD_END(record[0]) == IEBUS_END_WHOLE
+           && IEBUS_RECORD_CONTROL(record[0]) == 0xF - CONTROL && IEBUS_RECORD_MASTER(record[1]) == 0xFFF - MASTER
+           && IEBUS_RECORD_SLAVE(record[1]) == 0xFFF - SLAVE;
+}
+
+static void extremes(void)
+{
+    struct log log = long_frames();
+    uint32_t records[ROOM];
+    uint64_t frames = 0;
+    check("a log of long frames is read", iebus_read_log(1, log.slots, log.count, records, ROOM, &frames) == 0);
+    check("it has five", frames == 5);
+    const uint32_t *full = records, *again = full + iebus_record_words(full[0]);
+    const uint32_t *late = again + iebus_record_words(again[0]), *vain = late + iebus_record_words(late[0]);
+    check("a length of 256 comes back", IEBUS_RECORD_LENGTH(full[0]) == 256);
+    check("32 bytes come back", IEBUS_RECORD_ACKED(full[0]) == 32);
+    check("the last of them too", IEBUS_RECORD_BYTE(iebus_record_bytes(full)[31]) == 0xFF - 31);
+    check("a frame that is said again is told", IEBUS_RECORD_AGAIN(again[0]) == 1 && IEBUS_RECORD_AGAIN(full[0]) == 0);
+    check("a length of 255 comes back", IEBUS_RECORD_LENGTH(late[0]) == 255);
+    check("a byte at its 32nd attempt comes back", IEBUS_RECORD_ATTEMPTS(iebus_record_bytes(late)[0]) == 32);
+    check("32 attempts in vain come back", IEBUS_RECORD_UNACKED(vain[0]) == 32 && IEBUS_RECORD_ACKED(vain[0]) == 0);
+    check("a broadcast comes back", broadcast_comes_back(vain + iebus_record_words(vain[0])));
+}
+
 static void refusals(struct log *log, uint32_t *records)
 {
     uint64_t frames = UNTOUCHED;
@@ -127,6 +190,7 @@ int main(void)
     check("a log is read", iebus_read_log(0, log.slots, log.count, records, ROOM, &frames) == 0);
     check("it has eleven frames", frames == IEBUS_END_BROKEN_DATA + 1);
     walk(records);
+    extremes();
     refusals(&log, records);
     return any_failed;
 }
