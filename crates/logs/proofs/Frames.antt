@@ -10,7 +10,8 @@ use lib.ListN.{drop, getD, length}
 use lib.Seq.{getD-drop}
 use Rattle.line.specs.Choice.{bitOf, pick}
 use Rattle.line.specs.Numbers.{slotStart}
-use Rattle.logs.specs.Frames.{Low, framesOf, levelsFrom, startsIn}
+use Rattle.logs.specs.Frames.{Low, framesOf, levelsFrom}
+use Rattle.logs.specs.Log.{startsIn}
 
 pub low-drop : (n : ℕ) (levels : List ℕ) → Low levels → Low (drop n levels)
 low-drop n levels low i = rw getD-drop (low (n + i))

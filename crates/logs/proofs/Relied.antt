@@ -60,7 +60,8 @@ pub relied : (long : Bool) → Relied long
 unfolding recordsOf
 relied long = record {
   fits = λ slots. omega (arith, words-fit long slots none);
-  counted = λ slots. marked-length none _ ∙ length-map (framesOf slots) (readOf long) ∙ frames-counted slots;
+  counted = frames-counted;
+  one-each = λ slots. marked-length none _ ∙ length-map (framesOf slots) (readOf long) ∙ frames-counted slots;
   fresh = fresh long;
   first = λ slots. marked-first (map (readOf long) (framesOf slots));
   again = λ slots done before r rs e.

@@ -2,10 +2,10 @@
 -- from its start". "The list's end breaks a frame off as idle does."
 use mathlib.Core.Bool.{Bool, false, _||_}
 use mathlib.Core.List.{List, [], _∷_}
-use Prim.Native.Nat.{ℕ, _+_, _<_}
+use Prim.Native.Nat.{ℕ, _<_}
 use lib.Dec.{eqb, ltb}
 use lib.ListN.{getD}
-use Rattle.line.specs.Choice.{bitOf, pick}
+use Rattle.line.specs.Choice.{pick}
 use Rattle.line.specs.Numbers.{slotIdle, slotStart}
 
 -- every word is a level
@@ -21,11 +21,6 @@ levelsFrom (w ∷ ws) = pick (ltb w slotStart) (w ∷ levelsFrom ws) []
 unfoldable pub framesOf : List ℕ → List (List ℕ)
 framesOf [] = []
 framesOf (w ∷ ws) = pick (eqb w slotStart) (levelsFrom ws ∷ framesOf ws) (framesOf ws)
-
--- how many words of a list are starts
-unfoldable pub startsIn : List ℕ → ℕ
-startsIn [] = 0
-startsIn (w ∷ ws) = bitOf (eqb w slotStart) + startsIn ws
 
 -- "16, a word that is no slot word, checked over the whole list"
 unfoldable pub strayIn : List ℕ → Bool

@@ -3,14 +3,14 @@
 use mathlib.Core.Bool.{Bool, true, false, not}
 use mathlib.Core.Path.{_≡_}
 use mathlib.Core.List.{List, [], _∷_, _++_, map}
-use Prim.Native.Nat.{ℕ, _/_, _%_, _<_, _≤_}
+use Prim.Native.Nat.{ℕ, _+_, _/_, _%_, _<_, _≤_}
 use lib.Dec.{eqb, ltb}
 use lib.ListN.{drop, getD, length}
 use Rattle.line.specs.Choice.{bitOf, pick}
 use Rattle.line.specs.Numbers.{refusedNoSlot, refusedShortList, slotStart}
 use Rattle.logs.specs.declared.LogRead.{LogRead}
 use Rattle.logs.specs.declared.LogRead.the-variants.{Frames, ShortList, NoSlot}
-use Rattle.logs.specs.Frames.{framesOf, levelsFrom, startsIn, strayIn}
+use Rattle.logs.specs.Frames.{framesOf, levelsFrom, strayIn}
 use Rattle.logs.specs.Data.{noByte}
 use Rattle.logs.specs.Readings.{Reading, bitIn, bytesIn, controlIn, lengthOf, masterIn, readOf, slaveIn}
 use Rattle.logs.specs.Records.{Before, Record, againAfter, byteWord, firstWord, frame, none, recordsOf}
@@ -31,6 +31,11 @@ writtenOf long NoSlot slots = []
 pub record ReadLog (long : Bool) (slots before : List ℕ) (r : LogRead) (after : List ℕ) : Type 0 where
   pub ends : r ≡ endOf (length before) slots
   pub written : after ≡ writtenOf long r slots ++ drop (length (writtenOf long r slots)) before
+
+-- how many words of a list are starts
+unfoldable pub startsIn : List ℕ → ℕ
+startsIn [] = 0
+startsIn (w ∷ ws) = bitOf (eqb w slotStart) + startsIn ws
 
 -- records with the mark of the first one changed
 unfoldable pub remarked : Bool → List Record → List Record
@@ -87,7 +92,9 @@ fieldsAt ending = getD (5 ∷ 5 ∷ 3 ∷ 4 ∷ 5 ∷ 0 ∷ 1 ∷ 2 ∷ 3 ∷ 4 
 pub record Relied (long : Bool) : Type 0 where
   -- "n words always hold the records of n slots"
   pub fits : (slots : List ℕ) → length (wordsOf (recordsOf long slots)) ≤ length slots
-  pub counted : (slots : List ℕ) → length (recordsOf long slots) ≡ startsIn slots
+  -- the number that is given back, and "one record for each"
+  pub counted : (slots : List ℕ) → length (framesOf slots) ≡ startsIn slots
+  pub one-each : (slots : List ℕ) → length (recordsOf long slots) ≡ startsIn slots
   pub fresh : Fresh long
   pub first : (slots : List ℕ) (r : Record) (rs : List Record) → recordsOf long slots ≡ r ∷ rs → r .again ≡ false
   pub again : (slots : List ℕ) (done : List Record) (before r : Record) (rs : List Record)
