@@ -12,7 +12,7 @@ use Rattle.logs.specs.declared.LogRead.{LogRead}
 use Rattle.logs.specs.declared.LogRead.the-variants.{Frames, ShortList, NoSlot}
 use Rattle.logs.specs.Frames.{framesOf, levelsFrom, strayIn}
 use Rattle.logs.specs.Data.{noByte}
-use Rattle.logs.specs.Readings.{Reading, bitIn, bytesIn, controlIn, lengthOf, masterIn, readOf, slaveIn}
+use Rattle.logs.specs.Readings.{Reading, bitIn, controlIn, lengthOf, masterIn, readOf, slaveIn}
 use Rattle.logs.specs.Records.{Before, Record, againAfter, byteWord, firstWord, frame, none, recordsOf}
 use Rattle.logs.specs.Records.{secondWord, wordsOf}
 
@@ -60,7 +60,8 @@ Fresh long =
 pub record SaysAgain (before r : Reading) : Type 0 where
   pub fields : length (r .given) ≡ length (before .given)
   pub values : (i : ℕ) → getD (r .given) i 0 ≡ getD (before .given) i 0
-  pub bytes : bytesIn r ≡ bytesIn before
+  pub as-many : length (r .text .acked) ≡ length (before .text .acked)
+  pub bytes : (i : ℕ) → getD (r .text .acked) i noByte .byte ≡ getD (before .text .acked) i noByte .byte
 
 -- a mark is set exactly if something holds
 pub record Exactly (mark : Bool) (Holds : Type 0) : Type 0 where

@@ -11,9 +11,9 @@ use lib.ListN.{List·getD-eq-default, getD, length, length-map, take}
 use lib.Seq.{ext-getD}
 use Rattle.line.proofs.Either.{both}
 use Rattle.line.specs.Cases.{same}
-use Rattle.logs.proofs.Again.{equal-exactly, same-lists, same-self}
+use Rattle.logs.proofs.Again.{same-lists, same-self}
 use Rattle.logs.specs.Data.{Acked}
-use Rattle.logs.specs.Readings.{Reading, equalFrames}
+use Rattle.logs.specs.Readings.{Reading, bytesIn, equalFrames}
 use Rattle.reader.proofs.Parts.{cut}
 use Rattle.reader.specs.declared.entry.Entry.{Entry}
 use Rattle.reader.specs.Entries.{Stands, alikeEntries, alikeHeads, bytesFrom}
@@ -112,28 +112,26 @@ heads-self xs e f =
 
 module _ {r s : Reading} {a b : Entry} {records : List ℕ} (p : Stands r a records) (q : Stands s b records) where
   to : alikeEntries records a b ≡ true → equalFrames r s ≡ true
-  unfolding alikeEntries
+  unfolding alikeEntries equalFrames
   to test =
       let (heads, text) = both (alikeHeads (a .head) (b .head)) _ test in
       let (counts, bytes) = both (eqb (a .acked) (b .acked)) _ text in
       let as-many = eqb-true (a .acked) (b .acked) counts in
       let told = heads-told (r .given) (s .given) (a .head .ending) (b .head .ending) (p .few) (q .few)
       (rw (p .head, q .head) at heads) in
-      equal-exactly r s .always
-      (record {
-        fields = told .0;
-        values = told .1;
-        bytes = sym (q .bytes) ∙ sym (same-lists _ _ bytes)
-            ∙ ap (bytesFrom records (a .bytes)) (sym as-many) ∙ p .bytes;
-      })
+      let given = ext-getD 0 (s .given) (r .given) (told .0) (λ i h. told .1 i) in
+      let bytes : bytesIn s ≡ bytesIn r =
+      sym (q .bytes) ∙ sym (same-lists _ _ bytes) ∙ ap (bytesFrom records (a .bytes)) (sym as-many) ∙ p .bytes in
+      rw (given, bytes, same-self (r .given)) (same-self (bytesIn r))
 
   back : equalFrames r s ≡ true → alikeEntries records a b ≡ true
-  unfolding alikeEntries
+  unfolding alikeEntries equalFrames
   back equal =
-      let says = equal-exactly r s .only equal in
-      let given : s .given ≡ r .given = ext-getD 0 (s .given) (r .given) (says .fields) (λ i h. says .values i) in
+      let (fields, bytes) = both (same (r .given) (s .given)) _ equal in
+      let given = sym (same-lists (r .given) (s .given) fields) in
+      let said = same-lists (bytesIn r) (bytesIn s) bytes in
       let as-many : a .acked ≡ b .acked =
-      p .count ∙ sym (length-map (r .text .acked) (λ (x : Acked). x .byte)) ∙ ap length (sym (says .bytes))
+      p .count ∙ sym (length-map (r .text .acked) (λ (x : Acked). x .byte)) ∙ ap length said
       ∙ length-map (s .text .acked) (λ (x : Acked). x .byte) ∙ sym (q .count)
       in
       let heads : alikeHeads (a .head) (b .head) ≡ true =
@@ -141,7 +139,7 @@ module _ {r s : Reading} {a b : Entry} {records : List ℕ} (p : Stands r a reco
       ∙ heads-self (r .given) (a .head .ending) (b .head .ending)
       in
       let bytes : bytesFrom records (a .bytes) (b .acked) ≡ bytesFrom records (b .bytes) (b .acked) =
-      ap (bytesFrom records (a .bytes)) (sym as-many) ∙ p .bytes ∙ sym (says .bytes) ∙ sym (q .bytes)
+      ap (bytesFrom records (a .bytes)) (sym as-many) ∙ p .bytes ∙ said ∙ sym (q .bytes)
       in
       rw (heads, eq-eqb _ _ as-many, bytes) (same-self (bytesFrom records (b .bytes) (b .acked)))
 
