@@ -23,6 +23,7 @@ pub record Within (fields attempts since : ℕ) (levels : List ℕ) (t : Text) :
   pub slots : length (t .acked) * attemptSlots ≤ length levels
   pub unacked : t .unacked ≤ since + attempts
   pub took : (i : ℕ) → getD (t .acked) i noByte .attempts ≤ since + attempts
+  pub took-one : (i : ℕ) → i < length (t .acked) → 1 ≤ getD (t .acked) i noByte .attempts
   pub byte : Low levels → (i : ℕ) → getD (t .acked) i noByte .byte < 256
 
 -- none is left
@@ -35,6 +36,7 @@ ended attempts since ending levels h = record {
   slots = omega arith;
   unacked = omega arith;
   took = λ i. omega arith;
+  took-one = λ i h. omega arith;
   byte = λ low i. omega arith;
 }
 
@@ -49,6 +51,7 @@ one-more attempts since byte levels t h low w = record {
   slots = omega (arith, length-drop attemptSlots levels);
   unacked = omega arith;
   took = λ i. elim i [ zero ↦ omega arith | suc j ↦ omega (arith, w .took j) ];
+  took-one = λ i. elim i [ zero ↦ λ h. omega arith | suc j ↦ λ h. w .took-one j (omega arith) ];
   byte = λ h i. elim i [ zero ↦ low h | suc j ↦ w .byte (low-drop attemptSlots levels h) j ];
 }
 
@@ -63,6 +66,7 @@ weaker {levels = levels} place h k w = record {
   slots = omega (arith, length-drop place levels);
   unacked = omega arith;
   took = λ i. omega (arith, w .took i);
+  took-one = w .took-one;
   byte = λ low. w .byte (low-drop place levels low);
 }
 

@@ -6,9 +6,9 @@ use mathlib.Core.Path.{_≡_, refl}
 use Prim.Native.Nat.{ℕ, zero, suc, _+_, _*_, _^_, _≤_, _<_}
 use native.Mathlib.Nat.{mul-le-mul-right, pow-suc}
 use native.Mathlib.Omega.{arith}
-use borrow.Author.Tests.{lt-ltb}
+use borrow.Author.Tests.{eqb-false, lt-ltb}
 use lib.Dec.{eqb, ltb}
-use lib.ListN.{drop, getD, length, take}
+use lib.ListN.{List·getD-eq-default, drop, getD, length, take}
 use lib.Pow.{pow-pos}
 use Rattle.line.proofs.Either.{below-or-not, both, either}
 use Rattle.line.specs.Choice.{pick}
@@ -37,22 +37,35 @@ number-at-low place bits levels low = number-low bits (drop place levels) (low-d
 pub length-most : (n : ℕ) → n < 256 → lengthIn n ≤ 256
 length-most n h = ⊎-elim (λ e. rw e (omega arith)) (λ e. rw e (omega arith)) (either (eqb n 0))
 
+pub length-least : (n : ℕ) → 1 ≤ lengthIn n
+length-least n =
+    ⊎-elim (λ e. rw e (omega arith)) (λ e. rw e (omega (arith, eqb-false n 0 e))) (either (eqb n 0))
+
 -- ---- what is given
 
--- it is what a field's slots say, or nothing
+-- what a field's slots say is given, or nothing
+pub given-is : (levels : List ℕ) (fs : List Field) (i : ℕ) → i < length (givenIn fs levels)
+    → getD (givenIn fs levels) i 0 ≡ getD (map (valueIn levels) fs) i 0
+unfolding givenIn
+given-is levels [] i h = refl
+given-is levels (f ∷ fs) i h = by (ltb (length levels) (f .end)) (naked levels f) i h (given-is levels fs)
+  where
+    by : (cut nak : Bool) (i : ℕ) → i < length (pick cut [] (valueIn levels f ∷ pick nak [] (givenIn fs levels)))
+        → ((i : ℕ) → i < length (givenIn fs levels)
+        → getD (givenIn fs levels) i 0 ≡ getD (map (valueIn levels) fs) i 0)
+        → getD (pick cut [] (valueIn levels f ∷ pick nak [] (givenIn fs levels))) i 0
+        ≡ getD (map (valueIn levels) (f ∷ fs)) i 0
+    by true nak i h later = absurd (omega arith)
+    by false nak zero h later = refl
+    by false true (suc i) h later = absurd (omega arith)
+    by false false (suc i) h later = later i (omega arith)
+
 pub given-most : (levels : List ℕ) (fs : List Field) (i : ℕ)
     → getD (givenIn fs levels) i 0 ≤ getD (map (valueIn levels) fs) i 0
-unfolding givenIn
-given-most levels [] i = omega arith
-given-most levels (f ∷ fs) i = by (ltb (length levels) (f .end)) (naked levels f) i (given-most levels fs)
-  where
-    by : (cut nak : Bool) (i : ℕ) → ((i : ℕ) → getD (givenIn fs levels) i 0 ≤ getD (map (valueIn levels) fs) i 0)
-        → getD (pick cut [] (valueIn levels f ∷ pick nak [] (givenIn fs levels))) i 0
-        ≤ getD (map (valueIn levels) (f ∷ fs)) i 0
-    by true nak i later = omega arith
-    by false nak zero later = omega arith
-    by false true (suc i) later = omega arith
-    by false false (suc i) later = later i
+given-most levels fs i =
+    ⊎-elim (λ there. omega (arith, given-is levels fs i there))
+    (λ past. omega (arith, List·getD-eq-default (givenIn fs levels) 0 past))
+    (below-or-not i (length (givenIn fs levels)))
 
 -- what the table of endings has for fields that stand behind n others
 abbrev Tabled : ℕ → List Field → Type 0

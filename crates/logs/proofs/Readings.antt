@@ -12,13 +12,13 @@ use Rattle.line.specs.Choice.{pick}
 use Rattle.line.specs.Numbers.{endBrokenData}
 use Rattle.logs.specs.Frames.{Low}
 use Rattle.logs.specs.Data.{Text, attemptsOf, noByte}
-use Rattle.logs.specs.Fields.{dataPlace, endIn, givenIn, header}
+use Rattle.logs.specs.Fields.{dataPlace, endIn, givenIn, header, numberAt}
 use Rattle.logs.specs.Log.{fieldsAt}
 use Rattle.logs.specs.Readings.{Reading, bitIn, controlIn, dataOf, lengthOf, masterIn, readOf, slaveIn}
 use Rattle.logs.specs.Records.{recordWords, secondWord, wordsBehind}
 use Rattle.logs.proofs.Data.{Within, ended, text-within, weaker}
-use Rattle.logs.proofs.Fields.{at-most-one, fields-given, given-most, header-end, length-most, master-slots}
-use Rattle.logs.proofs.Fields.{number-at-low}
+use Rattle.logs.proofs.Fields.{at-most-one, fields-given, given-is, given-most, header-end, length-least}
+use Rattle.logs.proofs.Fields.{length-most, master-slots, number-at-low}
 
 -- a frame makes at most 32 attempts
 attempts-most : (long broadcast : Bool) (bytes : ℕ) → attemptsOf long broadcast bytes ≤ 32
@@ -57,11 +57,13 @@ pub record Bounded (r : Reading) : Type 0 where
   pub slave : slaveIn r < 0x1000
   pub control : controlIn r < 0x10
   pub bytes : lengthOf r ≤ 0x100
+  pub bytes-one : length (r .given) ≡ 5 → 1 ≤ lengthOf r
   pub ending : r .text .ending ≤ 10
   pub acked : length (r .text .acked) ≤ 32
   pub unacked : r .text .unacked ≤ 32
   pub byte : (i : ℕ) → getD (r .text .acked) i noByte .byte < 0x100
   pub took : (i : ℕ) → getD (r .text .acked) i noByte .attempts ≤ 32
+  pub took-one : (i : ℕ) → i < length (r .text .acked) → 1 ≤ getD (r .text .acked) i noByte .attempts
 
 pub reading-bounded : (long : Bool) (levels : List ℕ) → Low levels → Bounded (readOf long levels)
 unfolding readOf
@@ -75,11 +77,15 @@ reading-bounded long levels low =
       slave = omega (arith, most 2, number-at-low 14 12 levels low);
       control = omega (arith, most 3, number-at-low 28 4 levels low);
       bytes = omega (arith, most 4, length-most _ (number-at-low 34 8 levels low));
+      bytes-one = λ all.
+          let is = given-is levels header 4 (omega arith) in
+          omega (arith, is, length-least (numberAt levels 34 8));
       ending = text .ending;
       acked = text .acked;
       unacked = omega arith;
       byte = text .byte low;
       took = λ i. omega (arith, text .took i);
+      took-one = text .took-one;
     }
 
 -- a second word has the slots of the master address, and a byte its attempt's

@@ -14,7 +14,7 @@ use Rattle.logs.specs.Frames.{framesOf, levelsFrom, strayIn}
 use Rattle.logs.specs.Data.{noByte}
 use Rattle.logs.specs.Readings.{Reading, bitIn, controlIn, lengthOf, masterIn, readOf, slaveIn}
 use Rattle.logs.specs.Records.{Before, Record, againAfter, byteWord, firstWord, frame, none, recordsOf}
-use Rattle.logs.specs.Records.{secondWord, wordsOf}
+use Rattle.logs.specs.Records.{recordWords, secondWord, wordsOf}
 
 -- how the reading ends, where the answer list has so much room
 unfoldable pub endOf : ℕ → List ℕ → LogRead
@@ -68,9 +68,26 @@ pub record Exactly (mark : Bool) (Holds : Type 0) : Type 0 where
   pub only : mark ≡ true → Holds
   pub always : Holds → mark ≡ true
 
--- a record taken apart: what each bit field of its words says
+-- how many fields are given, of a frame that ended so
+unfoldable pub fieldsAt : ℕ → ℕ
+fieldsAt ending = getD (5 ∷ 5 ∷ 3 ∷ 4 ∷ 5 ∷ 0 ∷ 1 ∷ 2 ∷ 3 ∷ 4 ∷ 5 ∷ []) ending 0
+
+-- "length (1 to 256)", where it is given; how many bytes and attempts there can be; an ACKed byte took one at least
+pub record Ranges (r : Reading) : Type 0 where
+  pub bytes-least : length (r .given) ≡ 5 → 1 ≤ lengthOf r
+  pub bytes-most : lengthOf r ≤ 256
+  pub acked-most : length (r .text .acked) ≤ 32
+  pub unacked-most : r .text .unacked ≤ 32
+  pub attempts-least : (i : ℕ) → i < length (r .text .acked) → 1 ≤ getD (r .text .acked) i noByte .attempts
+  pub attempts-most : (i : ℕ) → getD (r .text .acked) i noByte .attempts ≤ 32
+
+-- how many words a record has, by its first one: a second where two fields are given, and one for each byte
+unfoldable pub sizeBy : ℕ → ℕ
+sizeBy first = 1 + bitOf (ltb 1 (fieldsAt (first % 0x10))) + first / 0x8_0000 % 0x40
+
+-- a record taken apart: what each bit field of its words says, that they have no other bits, and how many they are
 pub record TakenApart (r : Record) : Type 0 where
-  pub within : firstWord r < 0x8000_0000
+  pub first-within : firstWord r < 0x8000_0000
   pub ending : firstWord r % 0x10 ≡ r .reading .text .ending
   pub again : firstWord r / 0x10 % 2 ≡ bitOf (r .again)
   pub bit : firstWord r / 0x20 % 2 ≡ bitIn (r .reading)
@@ -78,16 +95,16 @@ pub record TakenApart (r : Record) : Type 0 where
   pub bytes : firstWord r / 0x400 % 0x200 ≡ lengthOf (r .reading)
   pub acked : firstWord r / 0x8_0000 % 0x40 ≡ length (r .reading .text .acked)
   pub unacked : firstWord r / 0x200_0000 ≡ r .reading .text .unacked
+  pub second-within : secondWord (r .reading) < 0x100_0000
   pub master : secondWord (r .reading) % 0x1000 ≡ masterIn (r .reading)
   pub slave : secondWord (r .reading) / 0x1000 ≡ slaveIn (r .reading)
+  pub byte-within : (i : ℕ) → byteWord (getD (r .reading .text .acked) i noByte) < 0x4000
   pub byte : (i : ℕ) → byteWord (getD (r .reading .text .acked) i noByte) % 0x100
       ≡ getD (r .reading .text .acked) i noByte .byte
   pub attempts : (i : ℕ) → byteWord (getD (r .reading .text .acked) i noByte) / 0x100
       ≡ getD (r .reading .text .acked) i noByte .attempts
-
--- how many fields are given, of a frame that ended so
-unfoldable pub fieldsAt : ℕ → ℕ
-fieldsAt ending = getD (5 ∷ 5 ∷ 3 ∷ 4 ∷ 5 ∷ 0 ∷ 1 ∷ 2 ∷ 3 ∷ 4 ∷ 5 ∷ []) ending 0
+  pub size : length (recordWords r) ≡ sizeBy (firstWord r)
+  pub size-most : length (recordWords r) ≤ 34
 
 -- what a user relies on, of every list
 pub record Relied (long : Bool) : Type 0 where
@@ -103,6 +120,8 @@ pub record Relied (long : Bool) : Type 0 where
       → Exactly (r .again) (SaysAgain (before .reading) (r .reading))
   pub apart : (slots : List ℕ) (done : List Record) (r : Record) (rs : List Record)
       → recordsOf long slots ≡ done ++ r ∷ rs → TakenApart r
+  pub ranges : (slots : List ℕ) (done : List Record) (r : Record) (rs : List Record)
+      → recordsOf long slots ≡ done ++ r ∷ rs → Ranges (r .reading)
   pub fields : (slots : List ℕ) (done : List Record) (r : Record) (rs : List Record)
       → recordsOf long slots ≡ done ++ r ∷ rs → length (r .reading .given) ≡ fieldsAt (r .reading .text .ending)
 

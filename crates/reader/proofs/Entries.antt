@@ -120,9 +120,9 @@ module _ {r s : Reading} {a b : Entry} {records : List ℕ} (p : Stands r a reco
       let told = heads-told (r .given) (s .given) (a .head .ending) (b .head .ending) (p .few) (q .few)
       (rw (p .head, q .head) at heads) in
       let given = ext-getD 0 (s .given) (r .given) (told .0) (λ i h. told .1 i) in
-      let bytes : bytesIn s ≡ bytesIn r =
+      let said : bytesIn s ≡ bytesIn r =
       sym (q .bytes) ∙ sym (same-lists _ _ bytes) ∙ ap (bytesFrom records (a .bytes)) (sym as-many) ∙ p .bytes in
-      rw (given, bytes, same-self (r .given)) (same-self (bytesIn r))
+      rw (given, said, same-self (r .given)) (same-self (bytesIn r))
 
   back : equalFrames r s ≡ true → alikeEntries records a b ≡ true
   unfolding alikeEntries equalFrames
