@@ -25,7 +25,8 @@ sized : (r : Record) → length (recordWords r)
     ≡ 1 + bitOf (ltb 1 (length (r .reading .given))) + length (r .reading .text .acked)
 unfolding recordWords wordsBehind
 sized r =
-    simp (length-append, length-map) (omega (arith, second-there (length (r .reading .given)) (secondWord (r .reading))))
+    let second = second-there (length (r .reading .given)) (secondWord (r .reading)) in
+    simp (length-append, length-map) (omega arith)
 
 ending-told : (r : Record) → Bounded (r .reading) → firstWord r % 0x10 ≡ r .reading .text .ending
 unfolding firstWord
@@ -43,8 +44,7 @@ acked-told r b =
 size-told : (r : Record) → Bounded (r .reading) → length (recordWords r) ≡ sizeBy (firstWord r)
 unfolding sizeBy
 size-told r b =
-    let fields : fieldsAt (firstWord r % 0x10) ≡ length (r .reading .given) = ap fieldsAt (ending-told r b) ∙ sym (b .fields) in
-    rw (fields, acked-told r b) (sized r)
+    rw (ap fieldsAt (ending-told r b) ∙ sym (b .fields), acked-told r b) (sized r)
 
 pub taken-apart : (r : Record) → Bounded (r .reading) → TakenApart r
 unfolding firstWord
