@@ -111,12 +111,21 @@ endCases =
     ∷ (read 0 (called 1 nak) gives 0 ∷ 1 ∷ 0x22 ∷ parties ∷ [])
     ∷ (read 0 (called 1 ack ++ answered 4 0xF nak) gives 0 ∷ 1 ∷ 0x3E3 ∷ parties ∷ [])
     ∷ (read 0 (told 1 ack ++ answered 8 2 nak) gives 0 ∷ 1 ∷ 0xBE4 ∷ parties ∷ [])
+    -- behind a NAK nothing is read, though the line goes on
+    ∷ (read 0 (called 1 nak ++ answered 4 0xF ack ++ answered 8 1 ack ++ sent 0x7B ack)
+    gives 0 ∷ 1 ∷ 0x22 ∷ parties ∷ [])
+    ∷ (read 0 (told 1 ack ++ answered 8 2 nak ++ sent 0x7B ack) gives 0 ∷ 1 ∷ 0xBE4 ∷ parties ∷ [])
     ∷ (read 0 (slotStart ∷ []) gives 0 ∷ 1 ∷ 5 ∷ [])
     ∷ (read 0 (slotStart ∷ 1 ∷ []) gives 0 ∷ 1 ∷ 0x26 ∷ [])
     ∷ (read 0 (slotStart ∷ 1 ∷ checked 12 0x123) gives 0 ∷ 1 ∷ 0x27 ∷ 0x123 ∷ [])
     ∷ (read 0 (called 1 ack) gives 0 ∷ 1 ∷ 0x28 ∷ parties ∷ [])
     ∷ (read 0 (told 1 ack) gives 0 ∷ 1 ∷ 0x3E9 ∷ parties ∷ [])
     ∷ (read 0 (sized 2) gives 0 ∷ 1 ∷ 0xBEA ∷ parties ∷ [])
+    -- a broadcast is cut as an individual frame is: before its data, behind a byte, and inside the next
+    ∷ (read 0 (spread 2) gives 0 ∷ 1 ∷ broadcast endBrokenData 2 0 0 ∷ parties ∷ [])
+    ∷ (read 0 (spread 2 ++ sent 0x7B nak) gives 0 ∷ 1 ∷ broadcast endShort 2 1 0 ∷ parties ∷ 0x17B ∷ [])
+    ∷ (read 0 (spread 2 ++ sent 0x7B nak ++ checked 8 0x80)
+    gives 0 ∷ 1 ∷ broadcast endBrokenData 2 1 0 ∷ parties ∷ 0x17B ∷ [])
     ∷ (cutEverywhere [] 65 gives endsEverywhere)
     ∷ (cutEverywhere (slotIdle ∷ 1 ∷ 1 ∷ []) 65 gives endsEverywhere)
     ∷ (cutEverywhere (slotStart ∷ 1 ∷ []) 65 gives endsEverywhere)
@@ -130,6 +139,10 @@ dataCases =
     (read 0 (slotStart ∷ 1 ∷ mischecked 12 0x123 ++ mischecked 12 0x456 ++ ack ∷ mischecked 4 0xF ++ ack
     ∷ mischecked 8 1 ++ ack ∷ missent 0x7B ack)
     gives 0 ∷ 1 ∷ individual endWhole 1 1 0 ∷ parties ∷ 0x17B ∷ [])
+    -- a broadcast's header has neither its P judged nor its A
+    ∷ (read 0 (slotStart ∷ 0 ∷ mischecked 12 0x123 ++ mischecked 12 0x456 ++ nak ∷ mischecked 4 1 ++ nak
+    ∷ mischecked 8 1 ++ nak ∷ sent 0x7B nak)
+    gives 0 ∷ 1 ∷ 0x8_0440 ∷ parties ∷ 0x17B ∷ [])
     -- a byte at its third attempt, and one more; attempts after the last byte, in all where there is none
     ∷ (read 0 (sized 2 ++ times 2 (sent 0x7B nak) ++ sent 0x7B ack ++ sent 0x80 ack)
     gives 0 ∷ 1 ∷ individual endWhole 2 2 0 ∷ parties ∷ 0x37B ∷ 0x180 ∷ [])
@@ -165,6 +178,8 @@ limitCases =
     gives 0 ∷ 1 ∷ individual endShort 256 32 0 ∷ parties ∷ replicate 32 0x17B)
     ∷ (read 0 (spread 17 ++ times 17 (sent 0x7B nak))
     gives 0 ∷ 1 ∷ broadcast endShort 17 16 0 ∷ parties ∷ replicate 16 0x17B)
+    ∷ (read 1 (spread 33 ++ times 33 (sent 0x7B nak))
+    gives 0 ∷ 1 ∷ broadcast endShort 33 32 0 ∷ parties ∷ replicate 32 0x17B)
     -- any mode but 0 has 32
     ∷ (read 2 (spread 17 ++ times 17 (sent 0x7B nak))
     gives 0 ∷ 1 ∷ broadcast endWhole 17 17 0 ∷ parties ∷ replicate 17 0x17B)
@@ -216,6 +231,10 @@ againCases =
     ∷ (read 0 (slotStart ∷ 0 ∷ slotStart ∷ 1 ∷ []) gives 0 ∷ 2 ∷ 6 ∷ 0x26 ∷ [])
     ∷ (read 0 (slotStart ∷ 1 ∷ checked 12 0x123 ++ slotStart ∷ 1 ∷ checked 12 0x124)
     gives 0 ∷ 2 ∷ 0x27 ∷ 0x123 ∷ 0x27 ∷ 0x124 ∷ [])
+    ∷ (read 0 (called 1 ack ++ slotStart ∷ 1 ∷ checked 12 0x123 ++ answered 12 0x457 ack)
+    gives 0 ∷ 2 ∷ 0x28 ∷ parties ∷ 0x28 ∷ 0x45_7123 ∷ [])
+    ∷ (read 0 (told 1 ack ++ called 1 ack ++ answered 4 0xE ack)
+    gives 0 ∷ 2 ∷ 0x3E9 ∷ parties ∷ 0x3A9 ∷ parties ∷ [])
     ∷ (read 0 (sized 2 ++ sized 3) gives 0 ∷ 2 ∷ 0xBEA ∷ parties ∷ 0xFEA ∷ parties ∷ [])
     ∷ (read 0 (sized 2 ++ sent 0x7B ack ++ sized 2 ++ sent 0x7B ack ++ sent 0x80 ack)
     gives 0 ∷ 2 ∷ individual endShort 2 1 0 ∷ parties ∷ 0x17B ∷ individual endWhole 2 2 0 ∷ parties ∷ 0x17B ∷ 0x180
