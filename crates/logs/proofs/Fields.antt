@@ -14,7 +14,7 @@ use Rattle.line.proofs.Either.{below-or-not, both, either}
 use Rattle.line.specs.Choice.{pick}
 use Rattle.line.specs.Numbers.{endBrokenData}
 use Rattle.logs.specs.Frames.{Low}
-use Rattle.logs.specs.Fields.{Field, endIn, givenIn, header, lengthIn, naked, numberAt, numberFrom, valueIn}
+use Rattle.logs.specs.Fields.{Field, endIn, givenIn, header, lengthIn, nakAt, numberAt, numberFrom, valueIn}
 use Rattle.logs.specs.Log.{fieldsAt}
 use Rattle.logs.proofs.Frames.{low-drop}
 
@@ -48,7 +48,7 @@ pub given-is : (levels : List ℕ) (fs : List Field) (i : ℕ) → i < length (g
     → getD (givenIn fs levels) i 0 ≡ getD (map (valueIn levels) fs) i 0
 unfolding givenIn
 given-is levels [] i h = refl
-given-is levels (f ∷ fs) i h = by (ltb (length levels) (f .end)) (naked levels f) i h (given-is levels fs)
+given-is levels (f ∷ fs) i h = by (ltb (length levels) (f .end)) (nakAt levels f) i h (given-is levels fs)
   where
     by : (cut nak : Bool) (i : ℕ) → i < length (pick cut [] (valueIn levels f ∷ pick nak [] (givenIn fs levels)))
         → ((i : ℕ) → i < length (givenIn fs levels)
@@ -78,9 +78,9 @@ fields-from : (levels : List ℕ) (fs : List Field) (n : ℕ) → Tabled n fs
 unfolding givenIn endIn
 fields-from levels [] n t = omega arith
 fields-from levels (f ∷ fs) n t =
-    by (ltb (length levels) (f .end)) (naked levels f) refl (fields-from levels fs (suc n) (t .2))
+    by (ltb (length levels) (f .end)) (nakAt levels f) refl (fields-from levels fs (suc n) (t .2))
   where
-    by : (cut nak : Bool) → naked levels f ≡ nak → suc n + length (givenIn fs levels) ≡ fieldsAt (endIn fs levels)
+    by : (cut nak : Bool) → nakAt levels f ≡ nak → suc n + length (givenIn fs levels) ≡ fieldsAt (endIn fs levels)
         → n + length (pick cut [] (valueIn levels f ∷ pick nak [] (givenIn fs levels)))
         ≡ fieldsAt (pick cut (f .broken) (pick nak (f .nak) (endIn fs levels)))
     by true nak e later = omega arith
@@ -106,7 +106,7 @@ LowEnds (f ∷ fs) = (f .broken ≤ 10) × (f .nak ≤ 10) × LowEnds fs
 end-low : (levels : List ℕ) (fs : List Field) → LowEnds fs → endIn fs levels ≤ 10
 unfolding endIn
 end-low levels [] low = omega arith
-end-low levels (f ∷ fs) low = by (ltb (length levels) (f .end)) (naked levels f) (end-low levels fs (low .2))
+end-low levels (f ∷ fs) low = by (ltb (length levels) (f .end)) (nakAt levels f) (end-low levels fs (low .2))
   where
     by : (cut nak : Bool) → endIn fs levels ≤ 10 → pick cut (f .broken) (pick nak (f .nak) (endIn fs levels)) ≤ 10
     by true nak later = low .0

@@ -59,10 +59,10 @@ textFrom zero broadcast missing since levels = textOf [] since (pick (eqb missin
 textFrom (suc attempts) broadcast missing since levels =
     let rest = drop attemptSlots levels in
     let counted = behind (byteIn levels) (since + 1) (textFrom attempts broadcast (missing - 1) 0 rest) in
-    let repeated = textFrom attempts broadcast missing (since + 1) rest in
+    let missed = textFrom attempts broadcast missing (since + 1) rest in
     pick (eqb missing 0) (textOf [] since endWhole)
     (pick (ltb (length levels) attemptSlots) (textOf [] since (cutOff levels))
-    (pick (counts broadcast levels) counted repeated))
+    (pick (counts broadcast levels) counted missed))
 
 -- how many attempts a frame makes at most: a broadcast one for each byte, without repeats
 abbrev pub attemptsOf : Bool → Bool → ℕ → ℕ

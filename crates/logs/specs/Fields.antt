@@ -78,17 +78,17 @@ abbrev pub valueIn : List ℕ → Field → ℕ
 valueIn levels f = f .means (numberAt levels (f .place) (f .bits))
 
 -- NAK: the last slot of a field that has an A is 1, in a frame whose broadcast bit is 1
-abbrev pub naked : List ℕ → Field → Bool
-naked levels f = f .answered && (eqb (getD levels 0 0) 1 && eqb (getD levels (f .end - 1) 0) 1)
+abbrev pub nakAt : List ℕ → Field → Bool
+nakAt levels f = f .answered && (eqb (getD levels 0 0) 1 && eqb (getD levels (f .end - 1) 0) 1)
 
 -- the values of the fields that are given, in order: none behind one that is broken off or that got NAK
 unfoldable pub givenIn : List Field → List ℕ → List ℕ
 givenIn [] levels = []
 givenIn (f ∷ fs) levels =
-    pick (ltb (length levels) (f .end)) [] (valueIn levels f ∷ pick (naked levels f) [] (givenIn fs levels))
+    pick (ltb (length levels) (f .end)) [] (valueIn levels f ∷ pick (nakAt levels f) [] (givenIn fs levels))
 
 -- how a frame ends in its header; broken off in its data where it has the whole header and no NAK
 unfoldable pub endIn : List Field → List ℕ → ℕ
 endIn [] levels = endBrokenData
 endIn (f ∷ fs) levels =
-    pick (ltb (length levels) (f .end)) (f .broken) (pick (naked levels f) (f .nak) (endIn fs levels))
+    pick (ltb (length levels) (f .end)) (f .broken) (pick (nakAt levels f) (f .nak) (endIn fs levels))

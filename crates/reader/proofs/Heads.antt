@@ -9,7 +9,7 @@ use lib.Dec.{eqb}
 use lib.ListN.{drop, getD, length}
 use Rattle.line.specs.Numbers.{endBrokenBit, endBrokenControl, endBrokenData, endBrokenLength, endBrokenMaster}
 use Rattle.line.specs.Numbers.{endBrokenSlave, endNakControl, endNakLength, endNakSlave}
-use Rattle.logs.specs.Fields.{Field, endIn, givenIn, header, lengthIn, naked, numberAt, numberFrom, valueIn}
+use Rattle.logs.specs.Fields.{Field, endIn, givenIn, header, lengthIn, nakAt, numberAt, numberFrom, valueIn}
 use Rattle.reader.specs.Heads.{Addressed, headIn, headOf}
 
 -- what the fields from one on give, and how the frame ends in them
@@ -24,13 +24,13 @@ module _ {levels : List ℕ} (f : Field) (fs : List Field) where
       let cut = lt-ltb (length levels) (f .end) short in
       record { gives = simp cut; ends = simp cut }
 
-  nak-there : f .end ≤ length levels → naked levels f ≡ true → Told (f ∷ fs) levels (valueIn levels f ∷ []) (f .nak)
+  nak-there : f .end ≤ length levels → nakAt levels f ≡ true → Told (f ∷ fs) levels (valueIn levels f ∷ []) (f .nak)
   unfolding givenIn endIn
   nak-there long nak =
       let whole = le-ltb (length levels) (f .end) long in
       record { gives = simp (whole, nak); ends = simp (whole, nak) }
 
-  read-on : {given : List ℕ} {ending : ℕ} → f .end ≤ length levels → naked levels f ≡ false
+  read-on : {given : List ℕ} {ending : ℕ} → f .end ≤ length levels → nakAt levels f ≡ false
       → Told fs levels given ending
       → Told (f ∷ fs) levels (valueIn levels f ∷ given) ending
   unfolding givenIn endIn

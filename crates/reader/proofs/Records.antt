@@ -12,7 +12,7 @@ use Rattle.line.specs.Choice.{pick}
 use Rattle.logs.proofs.Fields.{at-most-one}
 use Rattle.logs.proofs.Readings.{reading-bounded, record-fits}
 use Rattle.logs.specs.Data.{Acked, noByte}
-use Rattle.logs.specs.Fields.{Field, givenIn, header, naked, valueIn}
+use Rattle.logs.specs.Fields.{Field, givenIn, header, nakAt, valueIn}
 use Rattle.logs.specs.Frames.{Low}
 use Rattle.logs.specs.Readings.{Reading, bytesIn, dataOf, readOf}
 use Rattle.logs.specs.Records.{Before, Record, againAfter, byteWord, firstWord, frame, none, recordWords, wordsBehind}
@@ -79,7 +79,7 @@ bytes-low (a ∷ acked) low =
 given-few : (fs : List Field) (levels : List ℕ) → length (givenIn fs levels) ≤ length fs
 unfolding givenIn
 given-few [] levels = omega arith
-given-few (f ∷ fs) levels = by (ltb (length levels) (f .end)) (naked levels f) (given-few fs levels)
+given-few (f ∷ fs) levels = by (ltb (length levels) (f .end)) (nakAt levels f) (given-few fs levels)
   where
     by : (short nak : Bool) → length (givenIn fs levels) ≤ length fs
         → length (pick short [] (valueIn levels f ∷ pick nak [] (givenIn fs levels))) ≤ length (f ∷ fs)
