@@ -24,7 +24,7 @@ pub same-self : (xs : List ℕ) → same xs xs ≡ true
 same-self [] = refl
 same-self (x ∷ xs) = rw (eq-eqb x x refl) (same-self xs)
 
-abbrev byteOf : Acked → ℕ
+abbrev pub byteOf : Acked → ℕ
 byteOf a = a .byte
 
 pub equal-exactly : (before r : Reading) → Exactly (equalFrames before r) (SaysAgain before r)

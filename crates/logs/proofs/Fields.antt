@@ -37,14 +37,14 @@ number-at-low place bits levels low = number-low bits (drop place levels) (low-d
 pub length-most : (n : ℕ) → n < 256 → lengthIn n ≤ 256
 length-most n h = ⊎-elim (λ e. rw e (omega arith)) (λ e. rw e (omega arith)) (either (eqb n 0))
 
-pub length-least : (n : ℕ) → 1 ≤ lengthIn n
+length-least : (n : ℕ) → 1 ≤ lengthIn n
 length-least n =
     ⊎-elim (λ e. rw e (omega arith)) (λ e. rw e (omega (arith, eqb-false n 0 e))) (either (eqb n 0))
 
 -- ---- what is given
 
 -- what a field's slots say is given, or nothing
-pub given-is : (levels : List ℕ) (fs : List Field) (i : ℕ) → i < length (givenIn fs levels)
+given-is : (levels : List ℕ) (fs : List Field) (i : ℕ) → i < length (givenIn fs levels)
     → getD (givenIn fs levels) i 0 ≡ getD (map (valueIn levels) fs) i 0
 unfolding givenIn
 given-is levels [] i h = refl
@@ -66,6 +66,11 @@ given-most levels fs i =
     ⊎-elim (λ there. omega (arith, given-is levels fs i there))
     (λ past. omega (arith, List·getD-eq-default (givenIn fs levels) 0 past))
     (below-or-not i (length (givenIn fs levels)))
+
+-- a length that is given
+pub bytes-least : (levels : List ℕ) → length (givenIn header levels) ≡ 5 → 1 ≤ getD (givenIn header levels) 4 0
+bytes-least levels all =
+    omega (arith, given-is levels header 4 (omega arith), length-least (numberAt levels 34 8))
 
 -- what the table of endings has for fields that stand behind n others
 abbrev Tabled : ℕ → List Field → Type 0

@@ -5,6 +5,7 @@ pub mod Data
 pub mod Readings
 pub mod Marks
 pub mod Again
+pub mod Attempts
 pub mod Apart
 pub mod Relied
 pub mod Called

@@ -12,13 +12,13 @@ use Rattle.line.specs.Choice.{pick}
 use Rattle.line.specs.Numbers.{endBrokenData}
 use Rattle.logs.specs.Frames.{Low}
 use Rattle.logs.specs.Data.{Text, attemptsOf, noByte}
-use Rattle.logs.specs.Fields.{dataPlace, endIn, givenIn, header, numberAt}
+use Rattle.logs.specs.Fields.{dataPlace, endIn, givenIn, header}
 use Rattle.logs.specs.Log.{fieldsAt}
 use Rattle.logs.specs.Readings.{Reading, bitIn, controlIn, dataOf, lengthOf, masterIn, readOf, slaveIn}
 use Rattle.logs.specs.Records.{recordWords, secondWord, wordsBehind}
 use Rattle.logs.proofs.Data.{Within, ended, text-within, weaker}
-use Rattle.logs.proofs.Fields.{at-most-one, fields-given, given-is, given-most, header-end, length-least}
-use Rattle.logs.proofs.Fields.{length-most, master-slots, number-at-low}
+use Rattle.logs.proofs.Fields.{at-most-one, bytes-least, fields-given, given-most, header-end, length-most}
+use Rattle.logs.proofs.Fields.{master-slots, number-at-low}
 
 -- a frame makes at most 32 attempts
 attempts-most : (long broadcast : Bool) (bytes : ℕ) → attemptsOf long broadcast bytes ≤ 32
@@ -34,7 +34,7 @@ chosen P true true f g = f refl
 chosen P true false f g = g
 chosen P false second f g = g
 
-all-given : (levels : List ℕ) → endIn header levels ≡ endBrokenData → length (givenIn header levels) ≡ 5
+pub all-given : (levels : List ℕ) → endIn header levels ≡ endBrokenData → length (givenIn header levels) ≡ 5
 unfolding fieldsAt
 all-given levels e = fields-given levels ∙ ap fieldsAt e
 
@@ -77,9 +77,7 @@ reading-bounded long levels low =
       slave = omega (arith, most 2, number-at-low 14 12 levels low);
       control = omega (arith, most 3, number-at-low 28 4 levels low);
       bytes = omega (arith, most 4, length-most _ (number-at-low 34 8 levels low));
-      bytes-one = λ all.
-          let is = given-is levels header 4 (omega arith) in
-          omega (arith, is, length-least (numberAt levels 34 8));
+      bytes-one = bytes-least levels;
       ending = text .ending;
       acked = text .acked;
       unacked = omega arith;

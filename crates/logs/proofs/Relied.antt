@@ -15,6 +15,7 @@ use Rattle.logs.specs.Readings.{readOf}
 use Rattle.logs.specs.Records.{Before, none, frame, Record, againAfter, markedAfter, recordsOf, wordsOf}
 use Rattle.logs.proofs.Again.{equal-exactly}
 use Rattle.logs.proofs.Apart.{in-range, taken-apart}
+use Rattle.logs.proofs.Attempts.{data-says}
 use Rattle.logs.proofs.Frames.{frames-counted, frames-cut, levels-low}
 use Rattle.logs.proofs.Marks.{each-record, marked-cut, marked-first, marked-length, marked-next}
 use Rattle.logs.proofs.Readings.{Bounded, reading-bounded, record-fits}
@@ -69,5 +70,6 @@ relied long = record {
       (equal-exactly (before .reading) (r .reading));
   apart = λ slots done r rs e. taken-apart r (bounded long slots done r rs e);
   ranges = λ slots done r rs e. in-range (r .reading) (bounded long slots done r rs e);
+  data-says = data-says long;
   fields = λ slots done r rs e. bounded long slots done r rs e .fields;
 }

@@ -1,17 +1,18 @@
 -- Ticket 1, what reading a log comes to: "Answers: 16, a word that is no slot word, checked over the whole list before
 -- anything is read; 12, ahead of it, a lent answer list shorter than the slot list." And what a user relies on.
-use mathlib.Core.Bool.{Bool, true, false, not}
+use mathlib.Core.Bool.{Bool, true, false, not, _&&_, _||_}
 use mathlib.Core.Path.{_≡_}
 use mathlib.Core.List.{List, [], _∷_, _++_, map}
-use Prim.Native.Nat.{ℕ, _+_, _/_, _%_, _<_, _≤_}
+use Prim.Native.Nat.{ℕ, zero, suc, _+_, _*_, _/_, _%_, _<_, _≤_}
 use lib.Dec.{eqb, ltb}
-use lib.ListN.{drop, getD, length}
+use lib.ListN.{drop, getD, length, take}
 use Rattle.line.specs.Choice.{bitOf, pick}
-use Rattle.line.specs.Numbers.{refusedNoSlot, refusedShortList, slotStart}
+use Rattle.line.specs.Numbers.{endBrokenData, endShort, endWhole, refusedNoSlot, refusedShortList, slotStart}
 use Rattle.logs.specs.declared.LogRead.{LogRead}
 use Rattle.logs.specs.declared.LogRead.the-variants.{Frames, ShortList, NoSlot}
 use Rattle.logs.specs.Frames.{framesOf, levelsFrom, strayIn}
-use Rattle.logs.specs.Data.{noByte}
+use Rattle.logs.specs.Data.{Acked, attemptSlots, attemptsOf, byteIn, counts, noByte}
+use Rattle.logs.specs.Fields.{dataPlace, endIn, header}
 use Rattle.logs.specs.Readings.{Reading, bitIn, controlIn, lengthOf, masterIn, readOf, slaveIn}
 use Rattle.logs.specs.Records.{Before, Record, againAfter, byteWord, firstWord, frame, none, recordsOf}
 use Rattle.logs.specs.Records.{recordWords, secondWord, wordsOf}
@@ -106,6 +107,40 @@ pub record TakenApart (r : Record) : Type 0 where
   pub size : length (recordWords r) ≡ sizeBy (firstWord r)
   pub size-most : length (recordWords r) ≤ 34
 
+-- ---- the data of a frame once more, by its complete attempts and not by what is left of it
+
+-- the first so many complete attempts, each as the levels from its place on
+unfoldable pub attemptsIn : ℕ → List ℕ → List (List ℕ)
+attemptsIn zero levels = []
+attemptsIn (suc n) levels =
+    pick (ltb (length levels) attemptSlots) [] (levels ∷ attemptsIn n (drop attemptSlots levels))
+
+-- the bytes of those that count
+unfoldable pub countedIn : Bool → List (List ℕ) → List ℕ
+countedIn broadcast [] = []
+countedIn broadcast (a ∷ more) =
+    pick (counts broadcast a) (byteIn a ∷ countedIn broadcast more) (countedIn broadcast more)
+
+-- how many attempts a frame may make, and those of them that are there
+abbrev pub mostOf : Bool → Reading → ℕ
+mostOf long r = attemptsOf long (eqb (bitIn r) 0) (lengthOf r)
+
+abbrev pub madeOf : Bool → Reading → List ℕ → List (List ℕ)
+madeOf long r levels = attemptsIn (mostOf long r) levels
+
+-- a frame stops after a complete attempt: it may make no more, or no slot is left behind the last one, which there is
+abbrev pub stops : ℕ → ℕ → ℕ → Bool
+stops most made slots = eqb made most || (ltb 0 made && eqb slots (made * attemptSlots))
+
+-- of a frame with such levels behind its header: ACKed are the first bytes that count, as many as its length says; it
+-- is whole if these are all, else short if it stops after a complete attempt, else broken off
+pub record DataSays (long : Bool) (levels : List ℕ) (r : Reading) : Type 0 where
+  pub acked : map (λ (a : Acked). a .byte) (r .text .acked)
+      ≡ take (lengthOf r) (countedIn (eqb (bitIn r) 0) (madeOf long r levels))
+  pub ending : r .text .ending
+      ≡ pick (eqb (length (r .text .acked)) (lengthOf r)) endWhole
+      (pick (stops (mostOf long r) (length (madeOf long r levels)) (length levels)) endShort endBrokenData)
+
 -- what a user relies on, of every list
 pub record Relied (long : Bool) : Type 0 where
   -- "n words always hold the records of n slots"
@@ -122,6 +157,9 @@ pub record Relied (long : Bool) : Type 0 where
       → recordsOf long slots ≡ done ++ r ∷ rs → TakenApart r
   pub ranges : (slots : List ℕ) (done : List Record) (r : Record) (rs : List Record)
       → recordsOf long slots ≡ done ++ r ∷ rs → Ranges (r .reading)
+  -- of a frame whose header is all there and has no NAK
+  pub data-says : (levels : List ℕ) → endIn header levels ≡ endBrokenData
+      → DataSays long (drop dataPlace levels) (readOf long levels)
   pub fields : (slots : List ℕ) (done : List Record) (r : Record) (rs : List Record)
       → recordsOf long slots ≡ done ++ r ∷ rs → length (r .reading .given) ≡ fieldsAt (r .reading .text .ending)
 
