@@ -5,7 +5,7 @@ use mathlib.Core.Path.{_≡_, refl, ap, subst}
 use Prim.Native.Nat.{ℕ, suc}
 use native.Mathlib.Omega.{arith}
 use lib.Dec.{eqb}
-use lib.ListN.{length}
+use lib.ListN.{getD, length}
 use Rattle.line.specs.Choice.{pick}
 use Rattle.line.specs.Numbers.{slotStart}
 use Rattle.logs.specs.Frames.{framesOf, levelsFrom}
@@ -50,6 +50,16 @@ marked-next before [] (d ∷ done) one r rs e = cc
 marked-next before (f ∷ []) [] one r rs e = cc
 marked-next before (f ∷ g ∷ frames) [] one r rs e = cc
 marked-next before (f ∷ frames) (d ∷ done) one r rs e = marked-next (frame f) frames done one r rs cc
+
+pub marked-place : (long : Bool) (before : Before) (frames : List (List ℕ)) (done : List Record) (r : Record)
+    (rs : List Record) → markedAfter before (map (readOf long) frames) ≡ done ++ r ∷ rs
+    → r .reading ≡ readOf long (getD frames (length done) [])
+unfolding markedAfter
+marked-place long before [] [] r rs e = cc
+marked-place long before [] (d ∷ done) r rs e = cc
+marked-place long before (f ∷ frames) [] r rs e = cc
+marked-place long before (f ∷ frames) (d ∷ done) r rs e =
+    marked-place long (frame (readOf long f)) frames done r rs cc
 
 -- what holds of the frame at every start holds of every record's
 module _ (long : Bool) (P : Reading → Type 0) (holds : (ws : List ℕ) → P (readOf long (levelsFrom ws))) where

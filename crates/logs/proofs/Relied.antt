@@ -17,7 +17,7 @@ use Rattle.logs.proofs.Again.{equal-exactly}
 use Rattle.logs.proofs.Apart.{in-range, taken-apart}
 use Rattle.logs.proofs.Attempts.{data-says}
 use Rattle.logs.proofs.Frames.{frames-counted, frames-cut, levels-low}
-use Rattle.logs.proofs.Marks.{each-record, marked-cut, marked-first, marked-length, marked-next}
+use Rattle.logs.proofs.Marks.{each-record, marked-cut, marked-first, marked-length, marked-next, marked-place}
 use Rattle.logs.proofs.Readings.{Bounded, reading-bounded, record-fits}
 
 -- how many words the records of frames have
@@ -63,6 +63,7 @@ relied long = record {
   fits = λ slots. omega (arith, words-fit long slots none);
   counted = frames-counted;
   one-each = λ slots. marked-length none _ ∙ length-map (framesOf slots) (readOf long) ∙ frames-counted slots;
+  in-order = λ slots. marked-place long none (framesOf slots);
   fresh = fresh long;
   first = λ slots. marked-first (map (readOf long) (framesOf slots));
   again = λ slots done before r rs e.

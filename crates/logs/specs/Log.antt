@@ -143,11 +143,14 @@ pub record DataSays (long : Bool) (levels : List ℕ) (r : Reading) : Type 0 whe
 
 -- what a user relies on, of every list
 pub record Relied (long : Bool) : Type 0 where
-  -- "n words always hold the records of n slots"
+  -- n words always hold the records of n slots
   pub fits : (slots : List ℕ) → length (wordsOf (recordsOf long slots)) ≤ length slots
   -- the number that is given back, and "one record for each"
   pub counted : (slots : List ℕ) → length (framesOf slots) ≡ startsIn slots
   pub one-each : (slots : List ℕ) → length (recordsOf long slots) ≡ startsIn slots
+  -- "in order": each is that of the frame at its place
+  pub in-order : (slots : List ℕ) (done : List Record) (r : Record) (rs : List Record)
+      → recordsOf long slots ≡ done ++ r ∷ rs → r .reading ≡ readOf long (getD (framesOf slots) (length done) [])
   pub fresh : Fresh long
   pub first : (slots : List ℕ) (r : Record) (rs : List Record) → recordsOf long slots ≡ r ∷ rs → r .again ≡ false
   pub again : (slots : List ℕ) (done : List Record) (before r : Record) (rs : List Record)
