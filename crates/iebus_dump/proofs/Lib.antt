@@ -1,0 +1,8 @@
+-- The laws that the proofs share.
+pub mod Pieces
+pub mod Tables
+pub mod Digits
+pub mod Written
+pub mod Frames
+pub mod Texts
+pub mod Fits
