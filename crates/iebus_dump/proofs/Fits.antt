@@ -1,8 +1,8 @@
 -- Every dump has room: a line has at most 80 bytes for each word of its record, and a log no more of them than slots.
 use mathlib.Core.Bool.{Bool, true, false}
-use mathlib.Core.Path.{_≡_, _∙_, ap, refl, subst, sym}
+use mathlib.Core.Path.{_≡_, _∙_, ap, refl}
 use mathlib.Core.List.{List, [], _∷_, _++_, map}
-use Prim.Native.Nat.{ℕ, _+_, _*_, _%_, _≤_, min}
+use Prim.Native.Nat.{ℕ, _+_, _*_, _≤_}
 use native.Mathlib.Omega.{arith}
 use lib.Dec.{eqb, ltb}
 use lib.ListN.{getD, length, length-append, length-map, length-take, replicate}
@@ -10,12 +10,10 @@ use Rattle.line.specs.Choice.{pick}
 use Rattle.logs.specs.Data.{Acked}
 use Rattle.logs.specs.Frames.{strayIn}
 use Rattle.logs.specs.Log.{Relied}
-use Rattle.logs.specs.Readings.{bytesIn, controlIn, lengthOf, masterIn, slaveIn}
-use Rattle.logs.specs.Records.{Record, byteWord, firstWord, recordWords, recordsOf, secondWord, wordsBehind}
+use Rattle.logs.specs.Records.{Record, byteWord, recordWords, recordsOf, secondWord, wordsBehind}
 use Rattle.logs.specs.Records.{wordsOf as recordsWords}
 use Rattle.text.specs.declared.last.Last.{Last}
 use Rattle.text.specs.declared.last.Last.the-variants.{Nothing, Short, More}
-use Rattle.text.specs.Hex.{hexOf}
 use Rattle.text.specs.Last.{lastText}
 use Rattle.iebus_dump.specs.Line.{Frame, bitColumn, bytesColumn, bytesOf, controlColumn, controlName, controls}
 use Rattle.iebus_dump.specs.Line.{endingColumn, fieldsOf, frameOf, lengthColumn, lineOf, markColumn, padded}
@@ -24,7 +22,7 @@ use Rattle.iebus_dump.specs.Dump.{dumpBytes, header, lastOf, linesOf, re
 use Rattle.iebus_dump.proofs.Digits.{control-list, hex-two, length-list, route-list}
 use Rattle.iebus_dump.proofs.Frames.{Sound}
 use Rattle.iebus_dump.proofs.Tables.{ending-short}
-use Rattle.iebus_dump.proofs.Texts.{AllSound, none, also, relied-sound, slots-length}
+use Rattle.iebus_dump.proofs.Texts.{AllSound, also, relied-sound, slots-length}
 
 bit-short : (given bit : ℕ) → length (bitColumn given bit) ≡ 3
 unfolding bitColumn

@@ -2,10 +2,10 @@
 use mathlib.Core.Bool.{Bool, true, false}
 use mathlib.Core.Logic.{⊎-elim}
 use mathlib.Core.Path.{_≡_, _∙_, ap, sym, refl}
-use mathlib.Core.List.{List, [], _∷_, _++_, map, append-assoc}
-use Prim.Native.Nat.{ℕ, suc, _+_, _/_, _%_, _≤_, _<_}
+use mathlib.Core.List.{List, [], _∷_, _++_, map}
+use Prim.Native.Nat.{ℕ, suc, _+_, _/_, _%_}
 use native.Mathlib.Omega.{arith}
-use borrow.Author.Tests.{le-ltb, lt-ltb, ltb-true}
+use borrow.Author.Tests.{le-ltb, ltb-true}
 use lib.Dec.{eqb, ltb}
 use lib.ListN.{length, take, drop, getD, length-map}
 use lib.Seq.{take-at, drop-at, drop-drop}
@@ -13,8 +13,8 @@ use Rattle.line.proofs.Either.{either}
 use Rattle.line.specs.Choice.{bitOf, pick}
 use Rattle.logs.specs.Data.{Acked, noByte}
 use Rattle.logs.specs.Log.{TakenApart, fieldsAt}
-use Rattle.logs.specs.Readings.{bytesIn, controlIn, lengthOf, masterIn, slaveIn, bitIn}
-use Rattle.logs.specs.Records.{Record, byteWord, firstWord, recordWords, secondWord, wordsBehind, wordsOf}
+use Rattle.logs.specs.Readings.{masterIn, slaveIn}
+use Rattle.logs.specs.Records.{Record, byteWord, firstWord, recordWords, secondWord, wordsBehind}
 use Rattle.text.specs.Hex.{digitOf, hexOf}
 use Rattle.iebus_dump.specs.Line.{bytesColumn, fieldsOf, frameOf, lineOf, routeColumn}
 use Rattle.iebus_dump.specs.Writing.{ackedBy, aheadBy, frameBy, frameIn, givenBy}

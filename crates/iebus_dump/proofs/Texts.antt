@@ -4,18 +4,18 @@ use mathlib.Core.Bool.{Bool, true, false}
 use mathlib.Core.Logic.{⊎-elim}
 use mathlib.Core.Path.{_≡_, _∙_, ap, sym, refl}
 use mathlib.Core.List.{List, [], _∷_, _++_, append-assoc}
-use Prim.Native.Nat.{ℕ, zero, suc, _+_, _*_, _-_, _≤_, _<_, min, _/_, _%_}
+use Prim.Native.Nat.{ℕ, zero, suc, _+_, _*_, _-_, _≤_, min, _/_, _%_}
 use native.Mathlib.Numerals.{add-one}
 use native.Mathlib.Omega.{arith}
 use borrow.Author.Tests.{le-ltb}
 use lib.Dec.{eqb, ltb}
-use lib.ListN.{length, take, drop, getD, length-append, length-take}
+use lib.ListN.{length, take, drop, length-append, length-take}
 use lib.Seq.{append-snoc, take-all, take-take}
 use Rattle.line.specs.Choice.{bitOf, pick}
 use Rattle.line.specs.Numbers.{slotStart}
 use Rattle.line.proofs.Either.{either}
 use Rattle.logs.specs.declared.LogRead.{LogRead}
-use Rattle.logs.specs.declared.LogRead.the-variants.{Frames, ShortList, NoSlot}
+use Rattle.logs.specs.declared.LogRead.the-variants.{Frames, NoSlot}
 use Rattle.logs.specs.Frames.{framesOf, strayIn}
 use Rattle.logs.specs.Log.{ReadLog, Relied, endOf, startsIn, writtenOf}
 use Rattle.logs.specs.Records.{Record, firstWord, recordWords, recordsOf}
