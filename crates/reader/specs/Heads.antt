@@ -8,18 +8,22 @@ use lib.ListN.{getD, length}
 use Rattle.logs.specs.Fields.{endIn, givenIn, header, numberAt}
 use Rattle.reader.specs.declared.head.Head.{Head}
 
+abbrev pub headWith : ℕ → ℕ → ℕ → ℕ → ℕ → ℕ → ℕ → Head
+headWith given bit master slave control length ending =
+    record {
+      given = given;
+      bit = bit;
+      master = master;
+      slave = slave;
+      control = control;
+      length = length;
+      ending = ending;
+    }
+
 -- the fields that are given, and how the frame ended
 abbrev pub headIn : List ℕ → ℕ → Head
 headIn given ending =
-    record {
-      given = length given;
-      bit = getD given 0 0;
-      master = getD given 1 0;
-      slave = getD given 2 0;
-      control = getD given 3 0;
-      length = getD given 4 0;
-      ending = ending;
-    }
+    headWith (length given) (getD given 0 0) (getD given 1 0) (getD given 2 0) (getD given 3 0) (getD given 4 0) ending
 
 unfoldable pub headOf : List ℕ → Head
 headOf levels = headIn (givenIn header levels) (endIn header levels)

@@ -4,7 +4,7 @@ ghost use Prim.Native.Nat.{_≤_};
 ghost use lib.ListN.{length};
 ghost use Rattle.logs.specs.Frames.{Low};
 ghost use Rattle.logs.specs.Fields.{lengthIn};
-ghost use Rattle.reader.specs.Heads.{Addressed, headOf};
+ghost use Rattle.reader.specs.Heads.{Addressed, headOf, headWith};
 use crate::levels::number;
 use line::numbers::END_BROKEN_BIT;
 use line::numbers::END_BROKEN_CONTROL;
@@ -38,6 +38,29 @@ fn length_in(byte: u32) -> u32
     byte
 }
 
+// The number of fields given, then each in its order, and the ending.
+fn header(
+    given: u32,
+    bit: u32,
+    master: u32,
+    slave: u32,
+    control: u32,
+    length: u32,
+    ending: u32,
+) -> Head
+    ensures { λ r. ⌜ r ≡ headWith given bit master slave control length ending ⌝ }
+{
+    Head {
+        given,
+        bit,
+        master,
+        slave,
+        control,
+        length,
+        ending,
+    }
+}
+
 // The header of a frame that has its slave address, and no NAK there.
 fn head_answered(levels: &[u32], bit: u32, master: u32, slave: u32) -> Head
     requires { ⌜ Low (now levels) × (28 ≤ length (now levels)) × Addressed (now levels) bit master slave ⌝ }
@@ -45,60 +68,20 @@ fn head_answered(levels: &[u32], bit: u32, master: u32, slave: u32) -> Head
 {
     let count = levels.len();
     if count < 34 {
-        return Head {
-            given: 3,
-            bit,
-            master,
-            slave,
-            control: 0,
-            length: 0,
-            ending: END_BROKEN_CONTROL,
-        };
+        return header(3, bit, master, slave, 0, 0, END_BROKEN_CONTROL);
     }
     let control = number(levels, 28, 4);
     if (bit == 1) & (levels[33] == 1) {
-        return Head {
-            given: 4,
-            bit,
-            master,
-            slave,
-            control,
-            length: 0,
-            ending: END_NAK_CONTROL,
-        };
+        return header(4, bit, master, slave, control, 0, END_NAK_CONTROL);
     }
     if count < 44 {
-        return Head {
-            given: 4,
-            bit,
-            master,
-            slave,
-            control,
-            length: 0,
-            ending: END_BROKEN_LENGTH,
-        };
+        return header(4, bit, master, slave, control, 0, END_BROKEN_LENGTH);
     }
     let length = length_in(number(levels, 34, 8));
     if (bit == 1) & (levels[43] == 1) {
-        return Head {
-            given: 5,
-            bit,
-            master,
-            slave,
-            control,
-            length,
-            ending: END_NAK_LENGTH,
-        };
+        return header(5, bit, master, slave, control, length, END_NAK_LENGTH);
     }
-    Head {
-        given: 5,
-        bit,
-        master,
-        slave,
-        control,
-        length,
-        ending: END_BROKEN_DATA,
-    }
+    header(5, bit, master, slave, control, length, END_BROKEN_DATA)
 }
 
 // The header of a frame that has its master address.
@@ -110,27 +93,11 @@ fn head_mastered(levels: &[u32]) -> Head
     let bit = levels[0];
     let master = number(levels, 1, 12);
     if count < 28 {
-        return Head {
-            given: 2,
-            bit,
-            master,
-            slave: 0,
-            control: 0,
-            length: 0,
-            ending: END_BROKEN_SLAVE,
-        };
+        return header(2, bit, master, 0, 0, 0, END_BROKEN_SLAVE);
     }
     let slave = number(levels, 14, 12);
     if (bit == 1) & (levels[27] == 1) {
-        return Head {
-            given: 3,
-            bit,
-            master,
-            slave,
-            control: 0,
-            length: 0,
-            ending: END_NAK_SLAVE,
-        };
+        return header(3, bit, master, slave, 0, 0, END_NAK_SLAVE);
     }
     head_answered(levels, bit, master, slave)
 }
@@ -143,26 +110,10 @@ pub(crate) fn head_of(levels: &[u32]) -> Head
 {
     let count = levels.len();
     if count < 1 {
-        return Head {
-            given: 0,
-            bit: 0,
-            master: 0,
-            slave: 0,
-            control: 0,
-            length: 0,
-            ending: END_BROKEN_BIT,
-        };
+        return header(0, 0, 0, 0, 0, 0, END_BROKEN_BIT);
     }
     if count < 14 {
-        return Head {
-            given: 1,
-            bit: levels[0],
-            master: 0,
-            slave: 0,
-            control: 0,
-            length: 0,
-            ending: END_BROKEN_MASTER,
-        };
+        return header(1, levels[0], 0, 0, 0, 0, END_BROKEN_MASTER);
     }
     head_mastered(levels)
 }

@@ -9,27 +9,43 @@ pub head-answered-spec : {M : Type 1} → statement M
 head-answered-spec =
     tie.close
     (tie.spec
-    (λ c. no-control (c .before .before .pre .2) (c .before .before .pre .1) (c .if1 .taken))
+    (λ c κs. search needs)
+    (λ c. let cut = c .before in
+    c .header .ensures ∙ no-control (cut .before .before .pre .2) (cut .before .before .pre .1) (cut .if1 .taken))
     (λ c κs. search needs)
     (λ c. search needs)
-    (λ c. let long = c .before .before .before in
-    nak-control (long .before .before .pre .2) (long .before .before .pre .1) (c .before .before .number .ensures .0)
-    (long .if1 .left) (c .if2 .taken))
-    (λ c. let long = c .before .before .before .before in
-    no-length (long .before .before .pre .2) (long .before .before .pre .1)
-    (c .before .before .before .number .ensures .0) (long .if1 .left) (c .before .if2 .left) (c .if3 .taken))
+    (λ c κs. search needs)
+    (λ c. let nak = c .before in
+    let long = nak .before .before .before in
+    c .header2 .ensures
+    ∙ nak-control (long .before .before .pre .2) (long .before .before .pre .1) (nak .before .before .number .ensures .0)
+    (long .if1 .left) (nak .if2 .taken))
+    (λ c κs. search needs)
+    (λ c. let cut = c .before in
+    let long = cut .before .before .before .before in
+    c .header3 .ensures
+    ∙ no-length (long .before .before .pre .2) (long .before .before .pre .1)
+    (cut .before .before .before .number .ensures .0) (long .if1 .left) (cut .before .if2 .left) (cut .if3 .taken))
     (λ c κs. search needs)
     (λ c κs. search needs)
     (λ c. search needs)
-    (λ c. let enough = c .before .before .before .before in
+    (λ c κs. search needs)
+    (λ c. let nak = c .before in
+    let enough = nak .before .before .before .before in
     let long = enough .before .before .before .before in
-    let bytes = c .before .before .length-in .ensures ∙ ap lengthIn (c .before .before .before .number2 .ensures .0) in
-    nak-length (long .before .before .pre .2) (long .before .before .pre .1)
+    let bytes = nak .before .before .length-in .ensures
+    ∙ ap lengthIn (nak .before .before .before .number2 .ensures .0) in
+    c .header4 .ensures
+    ∙ nak-length (long .before .before .pre .2) (long .before .before .pre .1)
     (enough .before .before .before .number .ensures .0) (long .if1 .left) (enough .before .if2 .left) bytes
-    (enough .if3 .left) (c .if4 .taken))
-    (λ c. let enough = c .before .before .before .before in
+    (enough .if3 .left) (nak .if4 .taken))
+    (λ c κs. search needs)
+    (λ c. let whole = c .before in
+    let enough = whole .before .before .before .before in
     let long = enough .before .before .before .before in
-    let bytes = c .before .before .length-in .ensures ∙ ap lengthIn (c .before .before .before .number2 .ensures .0) in
-    whole-header (long .before .before .pre .2) (long .before .before .pre .1)
+    let bytes = whole .before .before .length-in .ensures
+    ∙ ap lengthIn (whole .before .before .before .number2 .ensures .0) in
+    c .header5 .ensures
+    ∙ whole-header (long .before .before .pre .2) (long .before .before .pre .1)
     (enough .before .before .before .number .ensures .0) (long .if1 .left) (enough .before .if2 .left) bytes
-    (enough .if3 .left) (c .if4 .left)))
+    (enough .if3 .left) (whole .if4 .left)))
