@@ -18,8 +18,8 @@ head-answered-spec =
     (λ c. let nak = c .before in
     let long = nak .before .before .before in
     c .header2 .ensures
-    ∙ nak-control (long .before .before .pre .2) (long .before .before .pre .1) (nak .before .before .number .ensures .0)
-    (long .if1 .left) (nak .if2 .taken))
+    ∙ nak-control (long .before .before .pre .2) (long .before .before .pre .1)
+    (nak .before .before .number .ensures .0) (long .if1 .left) (nak .if2 .taken))
     (λ c κs. search needs)
     (λ c. let cut = c .before in
     let long = cut .before .before .before .before in
