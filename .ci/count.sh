@@ -1,6 +1,7 @@
 # Counting for the gate: `suite` runs one suite of tests, under a heading, and adds up what its last line says.
 passed=0
 failed=0
+beside_job=''
 
 # suite NAME COMMAND..: a suite ends with the line 'N passed, M failed'. Where it has no such line, counts nothing at
 # all, or ends with another status than 0 although it counts no failure, that is a failure itself.
@@ -31,6 +32,7 @@ suite() {
 
 # beside COMMAND..: starts a suite that what follows need not wait for; `joined NAME` waits for it and counts it
 beside() {
+    all_joined
     beside_log=$(mktemp) || exit 2
     { "$@"; echo $? >"$beside_log.status"; } >"$beside_log" 2>&1 &
     beside_job=$!
@@ -40,6 +42,12 @@ joined() {
     wait "$beside_job"
     suite "$1" told_beside
     rm -f "$beside_log" "$beside_log.status"
+    beside_job=''
+}
+
+# all_joined: no suite is left beside that nobody has counted
+all_joined() {
+    [ -z "$beside_job" ] || one 'a suite beside that was not joined' false
 }
 
 # what the suite beside has said, and its status; one that was cut off has none, and fails

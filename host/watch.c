@@ -3,12 +3,15 @@
 
 #include "watch.h"
 
+/* Every unit of this bench is in mode 0. */
+enum { MODE = 0 };
+
 /* The record of the frame that the line has under way, or had last. Its slots begin with its start, so it is the only
    one, and its words are no more than its slots. */
 static void read_frame(const struct line *l, uint32_t record[LINE_SLOTS])
 {
     uint64_t frames;
-    if (iebus_read_log(0, l->slots, l->count, record, LINE_SLOTS, &frames) != 0 || frames != 1) {
+    if (iebus_read_log(MODE, l->slots, l->count, record, LINE_SLOTS, &frames) != 0 || frames != 1) {
         fprintf(stderr, "frame %u is none\n", l->frames);
         exit(2);
     }
@@ -66,8 +69,9 @@ void watch_print(const struct line *l)
         return;
     }
     print_parties(l, record);
-    if (end_in_header(record[0])) {
-        printf(": %s, %zu slots\n", end_in_header(record[0]), l->count);
+    const char *end = end_in_header(record[0]);
+    if (end) {
+        printf(": %s, %zu slots\n", end, l->count);
         return;
     }
     printf(": length %u, %zu slots\n", IEBUS_RECORD_LENGTH(record[0]), l->count);

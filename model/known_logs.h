@@ -1,6 +1,6 @@
 /* Logs whose records were worked out by hand from ticket 1, for every reader that is tried.
 
-   A log is written as text, blanks apart from each other or not:
+   A log is written as text, with blanks or without:
 
        S _ 0 1    a start, an idle, a level
        m525       a master address with its P

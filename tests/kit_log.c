@@ -124,8 +124,8 @@ static void walk(const uint32_t *record)
     check("the walk ends behind the last record", *record == UNTOUCHED);
 }
 
-/* Every field at its largest, where the frames before have it small: 256 bytes, 32 of them ACKed, and once more; one
-   byte at its 32nd attempt; 32 attempts in vain; a broadcast. */
+/* Numbers at their largest, where the frames before have them small: 256 bytes, 32 of them ACKed, and once more; one
+   byte at its 32nd attempt; 32 attempts in vain; then a broadcast. */
 static struct log long_frames(void)
 {
     struct log log;

@@ -59,7 +59,7 @@ wholeOf long input =
 
 -- room for all of it, whatever the input: the header, 80 bytes for each word and the longer last line
 abbrev pub dumpBytes : ℕ
-dumpBytes = 48 + 16384 * 80 + 6
+dumpBytes = length header + mostWords * 80 + 6
 
 -- what a text of so many bytes is given of it
 unfoldable pub dumpOf : Bool → List ℕ → ℕ → List ℕ

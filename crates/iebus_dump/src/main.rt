@@ -49,8 +49,10 @@ fn dumped(long: bool, input: &[u8], text: &mut [u8]) -> usize
     put_dump(text, last, &slots[0..end], &records)
 }
 
-// Where nobody reads what is printed, nothing is left to do.
-fn print(long: bool, input: &[u8], text: &mut [u8]) {
+// There is room for all of it. Where nobody reads what is printed, nothing is left to do.
+fn print(long: bool, input: &[u8], text: &mut [u8])
+    requires { ⌜ dumpBytes ≤ length (now text) ⌝ }
+{
     let count = dumped(long, input, text);
     io::write_all(STDOUT_FILENO, &text[0..count]);
 }

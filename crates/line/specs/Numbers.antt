@@ -1,4 +1,4 @@
--- The figures of document 01, each named once for the definitions of every library. src/numbers.rt names them for the
+-- The figures of document 01 and of the tickets, each named once for the definitions of every library. src/numbers.rt names them for the
 -- code; a proof that uses a figure fails where the two differ.
 use Prim.Native.Nat.{ℕ}
 

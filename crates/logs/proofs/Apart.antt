@@ -1,7 +1,7 @@
 -- A record's words taken apart again, and the ranges of what they say.
 use mathlib.Core.Logic.{⊎-elim}
-use mathlib.Core.List.{[], _∷_}
-use mathlib.Core.Path.{_≡_, sym, ap, _∙_}
+use mathlib.Core.List.{[], _∷_, _++_, map}
+use mathlib.Core.Path.{_≡_, refl, sym, ap, _∙_}
 use Prim.Native.Nat.{ℕ, _+_, _/_, _%_}
 use native.Mathlib.Omega.{arith}
 use borrow.Author.Tests.{le-ltb, lt-ltb}
@@ -12,7 +12,7 @@ use Rattle.line.proofs.Levels.{bit-le}
 use Rattle.line.specs.Choice.{bitOf, pick}
 use Rattle.logs.specs.Log.{Ranges, TakenApart, fieldsAt, sizeBy}
 use Rattle.logs.specs.Readings.{Reading}
-use Rattle.logs.specs.Records.{Record, firstWord, recordWords, secondWord, wordsBehind}
+use Rattle.logs.specs.Records.{Record, byteWord, firstWord, recordWords, secondWord, wordsBehind}
 use Rattle.logs.proofs.Readings.{Bounded}
 
 -- a second word is there where two fields are
@@ -46,11 +46,19 @@ unfolding sizeBy
 size-told r b =
     rw (ap fieldsAt (ending-told r b) ∙ sym (b .fields), acked-told r b) (sized r)
 
+laid-out : (r : Record)
+    → recordWords r
+    ≡ firstWord r ∷ pick (ltb (length (r .reading .given)) 2) [] (secondWord (r .reading) ∷ [])
+    ++ map byteWord (r .reading .text .acked)
+unfolding recordWords wordsBehind
+laid-out r = refl
+
 pub taken-apart : (r : Record) → Bounded (r .reading) → TakenApart r
 unfolding firstWord
 taken-apart r b =
     let again = bit-le (r .again) in
     record {
+      words = laid-out r;
       first-within = omega arith;
       ending = ending-told r b;
       again = omega arith;

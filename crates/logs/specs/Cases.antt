@@ -107,6 +107,8 @@ unfoldable pub endCases : List Case
 endCases =
     (read 0 (sized 2 ++ sent 0x7B ack ++ sent 0x80 ack)
     gives 0 ∷ 1 ∷ individual endWhole 2 2 0 ∷ parties ∷ 0x17B ∷ 0x180 ∷ [])
+    ∷ (read 0 (sized 4 ++ sent 0x7B ack ++ sent 0x80 ack ++ sent 0x01 nak ++ sent 0x01 ack ++ sent 0xFE ack)
+    gives 0 ∷ 1 ∷ individual endWhole 4 4 0 ∷ parties ∷ 0x17B ∷ 0x180 ∷ 0x201 ∷ 0x1FE ∷ [])
     ∷ (read 0 (sized 2 ++ sent 0x7B ack) gives 0 ∷ 1 ∷ individual endShort 2 1 0 ∷ parties ∷ 0x17B ∷ [])
     ∷ (read 0 (called 1 nak) gives 0 ∷ 1 ∷ 0x22 ∷ parties ∷ [])
     ∷ (read 0 (called 1 ack ++ answered 4 0xF nak) gives 0 ∷ 1 ∷ 0x3E3 ∷ parties ∷ [])

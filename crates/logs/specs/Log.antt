@@ -86,8 +86,12 @@ pub record Ranges (r : Reading) : Type 0 where
 unfoldable pub sizeBy : ℕ → ℕ
 sizeBy first = 1 + bitOf (ltb 1 (fieldsAt (first % 0x10))) + first / 0x8_0000 % 0x40
 
--- a record taken apart: what each bit field of its words says, that they have no other bits, and how many they are
+-- a record taken apart: which words it has, in which order, what each bit field of them says, and that they have no
+-- other bits
 pub record TakenApart (r : Record) : Type 0 where
+  pub words : recordWords r
+      ≡ firstWord r ∷ pick (ltb (length (r .reading .given)) 2) [] (secondWord (r .reading) ∷ [])
+      ++ map byteWord (r .reading .text .acked)
   pub first-within : firstWord r < 0x8000_0000
   pub ending : firstWord r % 0x10 ≡ r .reading .text .ending
   pub again : firstWord r / 0x10 % 2 ≡ bitOf (r .again)
