@@ -1,5 +1,5 @@
--- The figures of document 01 and of the tickets, each named once for the definitions of every library. src/numbers.rt names them for the
--- code; a proof that uses a figure fails where the two differ.
+-- The figures of document 01 and of the tickets, each named once for the definitions of every library. src/numbers.rt
+-- names them for the code; a proof that uses a figure fails where the two differ.
 use Prim.Native.Nat.{ℕ}
 
 -- Words: the kind is in the top four bits, "0, slot", "1, register write", "2, register read", then the answers

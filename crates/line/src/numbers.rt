@@ -1,5 +1,5 @@
-// The figures of document 01 and of the tickets, each named once for the code of every library. `specs/Numbers.antt` names them for the
-// definitions; a proof that uses a figure fails where the two differ.
+// The figures of document 01 and of the tickets, each named once for the code of every library. `specs/Numbers.antt`
+// names them for the definitions; a proof that uses a figure fails where the two differ.
 
 // Words: the kind is in the top four bits, "0, slot", "1, register write", "2, register read", then the answers.
 pub const KIND_SLOT: u32 = 0;
