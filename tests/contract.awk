@@ -2,6 +2,8 @@
 # a tab, and all from `pub` to its body, with where the names in it are from.
 #
 #   awk -f tests/contract.awk crates/NAME/src/*.rt
+#
+# With `-v program=1` that of each function with an `ensures`, public or not: a program has none that is public.
 
 # `ghost use PATH.{NAMES};`: where each name is from, in this file
 function taken(line,    path, list, n, i) {
@@ -34,7 +36,7 @@ FNR == 1 { type = ""; text = "" }
 { sub(/^[ \t]*\/\/.*/, "") }
 /^impl / { type = $2 "::" }
 /^}/ { type = "" }
-/^ *pub (extern "C" )?fn / {
+/^ *pub (extern "C" )?fn / || (program && /^ *fn /) {
     name = $0
     sub(/^.*fn /, "", name)
     sub(/[^A-Za-z0-9_].*/, "", name)
@@ -46,7 +48,7 @@ text != "" {
     gsub(/[ \t]+/, " ", line)
     text = text line
     if (body) {
-        print type name "\t" text sources(text)
+        if (!program || text ~ / ensures /) print type name "\t" text sources(text)
         text = ""
     }
 }

@@ -2,7 +2,8 @@
 // function has a `requires`, and nothing is assumed.
 ghost use Rattle.contenders.specs.Contest.{ContestedWord, NamedRightly, contendersOf, verdictIn};
 ghost use Rattle.lists.specs.Bytes.{CalledBytes};
-ghost use Rattle.logs.specs.Log.{CalledLog, Relied, longIn};
+ghost use Rattle.logs.specs.Log.{CalledLog, longIn};
+ghost use Rattle.logs.specs.Relied.{Relied};
 ghost use Rattle.rules.specs.State.{reset};
 ghost use Rattle.keeping.specs.Calls.{Ran, Reset};
 use contenders::Contender;

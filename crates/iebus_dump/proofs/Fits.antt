@@ -9,7 +9,7 @@ use lib.ListN.{getD, length, length-append, length-map, length-take, replicate}
 use Rattle.line.specs.Choice.{pick}
 use Rattle.logs.specs.Data.{Acked}
 use Rattle.logs.specs.Frames.{strayIn}
-use Rattle.logs.specs.Log.{Relied}
+use Rattle.logs.specs.Relied.{Relied}
 use Rattle.logs.specs.Records.{Record, byteWord, recordWords, recordsOf, secondWord, wordsBehind}
 use Rattle.logs.specs.Records.{wordsOf as recordsWords}
 use Rattle.text.specs.declared.last.Last.{Last}

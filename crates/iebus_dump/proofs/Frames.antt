@@ -12,7 +12,7 @@ use lib.Seq.{take-at, drop-at, drop-drop}
 use Rattle.line.proofs.Either.{either}
 use Rattle.line.specs.Choice.{bitOf, pick}
 use Rattle.logs.specs.Data.{Acked, noByte}
-use Rattle.logs.specs.Log.{TakenApart, fieldsAt}
+use Rattle.logs.specs.Relied.{TakenApart, fieldsAt}
 use Rattle.logs.specs.Readings.{masterIn, slaveIn}
 use Rattle.logs.specs.Records.{Record, byteWord, firstWord, recordWords, secondWord, wordsBehind}
 use Rattle.text.specs.Hex.{digitOf, hexOf}

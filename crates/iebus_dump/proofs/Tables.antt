@@ -12,7 +12,7 @@ use Rattle.line.specs.Cases.{same}
 use Rattle.line.specs.Choice.{pick}
 use Rattle.text.specs.Last.{lastText}
 use Rattle.line.proofs.Either.{both, by-value}
-use Rattle.logs.specs.Log.{fieldsAt}
+use Rattle.logs.specs.Relied.{fieldsAt}
 use Rattle.iebus_dump.specs.Line.{bytesOf, controlName, endingColumn, markColumn, padded}
 use Rattle.iebus_dump.specs.Writing.{lastAt, nameBy}
 

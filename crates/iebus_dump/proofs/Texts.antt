@@ -17,7 +17,8 @@ use Rattle.line.proofs.Either.{either}
 use Rattle.logs.specs.declared.LogRead.{LogRead}
 use Rattle.logs.specs.declared.LogRead.the-variants.{Frames, NoSlot}
 use Rattle.logs.specs.Frames.{framesOf, strayIn}
-use Rattle.logs.specs.Log.{ReadLog, Relied, endOf, startsIn, writtenOf}
+use Rattle.logs.specs.Log.{ReadLog, endOf, writtenOf}
+use Rattle.logs.specs.Relied.{Relied, startsIn}
 use Rattle.logs.specs.Records.{Record, firstWord, recordWords, recordsOf}
 use Rattle.logs.specs.Records.{wordsOf as recordsWords}
 use Rattle.text.specs.declared.last.Last.the-variants.{Nothing, Short, More}

@@ -10,7 +10,7 @@ use Rattle.line.specs.Choice.{pick}
 use Rattle.line.specs.Numbers.{slotStart}
 use Rattle.logs.specs.declared.LogRead.{LogRead}
 use Rattle.logs.specs.declared.LogRead.the-variants.{Frames, ShortList, NoSlot}
-use Rattle.logs.specs.Log.{fieldsAt}
+use Rattle.logs.specs.Relied.{fieldsAt}
 use Rattle.text.specs.Hex.{digitOf}
 use Rattle.text.specs.declared.last.Last.the-variants.{Short, More}
 use Rattle.text.specs.Last.{lastText}

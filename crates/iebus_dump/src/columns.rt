@@ -1,7 +1,7 @@
 // The columns of a frame's line.
 ghost use mathlib.Core.Path.{_≡_};
 ghost use Prim.Native.Nat.{_%_, _≤_, _<_};
-ghost use Rattle.logs.specs.Log.{fieldsAt};
+ghost use Rattle.logs.specs.Relied.{fieldsAt};
 ghost use Rattle.iebus_dump.specs.Line.{lengthColumn, routeColumn};
 ghost use Rattle.iebus_dump.specs.Writing.{digitShown, kindBy, markBy, nameBy};
 

@@ -9,7 +9,7 @@ use lib.Seq.{ext-getD}
 use Rattle.line.proofs.Either.{both}
 use Rattle.line.specs.Cases.{same}
 use Rattle.logs.specs.Data.{Acked, noByte}
-use Rattle.logs.specs.Log.{Exactly, SaysAgain}
+use Rattle.logs.specs.Relied.{Exactly, SaysAgain}
 use Rattle.logs.specs.Readings.{Reading, bytesIn, equalFrames}
 
 pub same-lists : (xs ys : List ℕ) → same xs ys ≡ true → xs ≡ ys

@@ -10,7 +10,7 @@ use lib.ListN.{length, length-append, length-map}
 use Rattle.line.proofs.Either.{below-or-not}
 use Rattle.line.proofs.Levels.{bit-le}
 use Rattle.line.specs.Choice.{bitOf, pick}
-use Rattle.logs.specs.Log.{Ranges, TakenApart, fieldsAt, sizeBy}
+use Rattle.logs.specs.Relied.{Ranges, TakenApart, fieldsAt, sizeBy}
 use Rattle.logs.specs.Readings.{Reading}
 use Rattle.logs.specs.Records.{Record, byteWord, firstWord, recordWords, secondWord, wordsBehind}
 use Rattle.logs.proofs.Readings.{Bounded}

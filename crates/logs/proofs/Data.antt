@@ -11,7 +11,7 @@ use Rattle.line.specs.Choice.{pick}
 use Rattle.line.specs.Numbers.{endBrokenData, endShort, endWhole}
 use Rattle.logs.specs.Frames.{Low}
 use Rattle.logs.specs.Data.{Text, attemptSlots, behind, byteIn, counts, cutOff, noByte, textFrom, textOf}
-use Rattle.logs.specs.Log.{fieldsAt}
+use Rattle.logs.specs.Relied.{fieldsAt}
 use Rattle.logs.proofs.Fields.{number-low}
 use Rattle.logs.proofs.Frames.{low-drop}
 

@@ -15,7 +15,7 @@ use Rattle.line.specs.Choice.{pick}
 use Rattle.line.specs.Numbers.{endBrokenData}
 use Rattle.logs.specs.Frames.{Low}
 use Rattle.logs.specs.Fields.{Field, endIn, givenIn, header, lengthIn, nakAt, numberAt, numberFrom, valueIn}
-use Rattle.logs.specs.Log.{fieldsAt}
+use Rattle.logs.specs.Relied.{fieldsAt}
 use Rattle.logs.proofs.Frames.{low-drop}
 
 -- ---- numbers

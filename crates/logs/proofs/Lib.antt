@@ -3,9 +3,11 @@ pub mod Frames
 pub mod Fields
 pub mod Data
 pub mod Readings
+pub mod Headers
 pub mod Marks
 pub mod Again
 pub mod Attempts
 pub mod Apart
 pub mod Relied
 pub mod Called
+pub mod Example

@@ -9,7 +9,7 @@ use lib.ListN.{getD, length}
 use Rattle.line.specs.Choice.{pick}
 use Rattle.line.specs.Numbers.{slotStart}
 use Rattle.logs.specs.Frames.{framesOf, levelsFrom}
-use Rattle.logs.specs.Log.{lastFrame, remarked}
+use Rattle.logs.specs.Relied.{lastFrame, remarked}
 use Rattle.logs.specs.Readings.{Reading, equalFrames, readOf}
 use Rattle.logs.specs.Records.{Before, none, frame, Record, againAfter, markedAfter}
 

@@ -13,7 +13,7 @@ use Rattle.line.specs.Numbers.{endBrokenData}
 use Rattle.logs.specs.Frames.{Low}
 use Rattle.logs.specs.Data.{Text, attemptsOf, noByte}
 use Rattle.logs.specs.Fields.{dataPlace, endIn, givenIn, header}
-use Rattle.logs.specs.Log.{fieldsAt}
+use Rattle.logs.specs.Relied.{fieldsAt}
 use Rattle.logs.specs.Readings.{Reading, bitIn, controlIn, dataOf, lengthOf, masterIn, readOf, slaveIn}
 use Rattle.logs.specs.Records.{recordWords, secondWord, wordsBehind}
 use Rattle.logs.proofs.Data.{Within, ended, text-within, weaker}

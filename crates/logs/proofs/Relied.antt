@@ -10,13 +10,15 @@ use lib.ListN.{length, length-append, length-map}
 use Rattle.line.specs.Choice.{pick}
 use Rattle.line.specs.Numbers.{slotStart}
 use Rattle.logs.specs.Frames.{framesOf, levelsFrom}
-use Rattle.logs.specs.Log.{Fresh, Relied}
+use Rattle.logs.specs.Relied.{Fresh, Relied}
 use Rattle.logs.specs.Readings.{readOf}
 use Rattle.logs.specs.Records.{Before, none, frame, Record, againAfter, markedAfter, recordsOf, wordsOf}
 use Rattle.logs.proofs.Again.{equal-exactly}
 use Rattle.logs.proofs.Apart.{in-range, taken-apart}
 use Rattle.logs.proofs.Attempts.{data-says}
-use Rattle.logs.proofs.Frames.{frames-counted, frames-cut, levels-low}
+use Rattle.logs.proofs.Frames.{frames-counted, frames-cut, levels-end, levels-low, list-end}
+use Rattle.logs.proofs.Frames.{none-stray, stray-found}
+use Rattle.logs.proofs.Headers.{attempt-says, cut, header-ends, header-says, sent}
 use Rattle.logs.proofs.Marks.{each-record, marked-cut, marked-first, marked-length, marked-next, marked-place}
 use Rattle.logs.proofs.Readings.{Bounded, reading-bounded, record-fits}
 
@@ -58,9 +60,13 @@ bounded long slots =
     each-record long Bounded (λ ws. reading-bounded long (levelsFrom ws) (levels-low ws)) slots none
 
 pub relied : (long : Bool) → Relied long
-unfolding recordsOf
+unfolding recordsOf wordsOf
 relied long = record {
-  fits = λ slots. omega (arith, words-fit long slots none);
+  stray = stray-found;
+  no-stray = none-stray;
+  levels-end = levels-end;
+  list-end = list-end;
+  begins = frames-cut;
   counted = frames-counted;
   one-each = λ slots. marked-length none _ ∙ length-map (framesOf slots) (readOf long) ∙ frames-counted slots;
   in-order = λ slots. marked-place long none (framesOf slots);
@@ -69,8 +75,14 @@ relied long = record {
   again = λ slots done before r rs e.
       rw (marked-next none (map (readOf long) (framesOf slots)) done before r rs e)
       (equal-exactly (before .reading) (r .reading));
-  apart = λ slots done r rs e. taken-apart r (bounded long slots done r rs e);
-  ranges = λ slots done r rs e. in-range (r .reading) (bounded long slots done r rs e);
-  data-says = data-says long;
+  sent = sent long;
+  cut = cut long;
+  attempt = attempt-says;
+  header-says = header-says long;
+  data-says = λ levels e. data-says long levels (header-ends levels ∙ e);
   fields = λ slots done r rs e. bounded long slots done r rs e .fields;
+  ranges = λ slots done r rs e. in-range (r .reading) (bounded long slots done r rs e);
+  apart = λ slots done r rs e. taken-apart r (bounded long slots done r rs e);
+  behind = λ r rs. refl;
+  fits = λ slots. omega (arith, words-fit long slots none);
 }

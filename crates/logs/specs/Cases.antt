@@ -89,15 +89,21 @@ read mode slots = readInto (length slots) mode slots
 
 -- ---- how a frame ends
 
--- how a frame of two bytes ends that is cut behind each of so many slots
-abbrev pub cutEverywhere : List ℕ → ℕ → List ℕ
-cutEverywhere cut zero = []
-cutEverywhere cut (suc n) =
-    cutEverywhere cut n
-    ++ (getD (read 0 (take (suc n) (sized 2 ++ sent 0x7B ack ++ sent 0x80 ack) ++ cut)) 2 0 % 0x10) ∷ []
+-- how a frame ends that is cut behind each of so many slots
+abbrev pub cutEverywhere : List ℕ → List ℕ → ℕ → List ℕ
+cutEverywhere slots cut zero = []
+cutEverywhere slots cut (suc n) =
+    cutEverywhere slots cut n ++ (getD (read 0 (take (suc n) slots ++ cut)) 2 0 % 0x10) ∷ []
 
--- start and bit are one slot each, the fields behind them 13, 14, 6 and 10, and an attempt ten; "short after a complete
--- attempt", and broken off in the data before any
+-- frames of two bytes
+abbrev pub individualTwo : List ℕ
+individualTwo = sized 2 ++ sent 0x7B ack ++ sent 0x80 ack
+
+abbrev pub broadcastTwo : List ℕ
+broadcastTwo = spread 2 ++ sent 0x7B nak ++ sent 0x80 nak
+
+-- start and bit are one slot each, the fields behind them 13, 14, 6 and 10, and an attempt ten; "short after a
+-- complete attempt", and broken off in the data before any
 abbrev pub endsEverywhere : List ℕ
 endsEverywhere =
     5 ∷ replicate 13 6 ++ replicate 14 7 ++ replicate 6 8 ++ replicate 10 9 ++ replicate 10 10 ++ 1 ∷ replicate 9 10
@@ -128,9 +134,10 @@ endCases =
     ∷ (read 0 (spread 2 ++ sent 0x7B nak) gives 0 ∷ 1 ∷ broadcast endShort 2 1 0 ∷ parties ∷ 0x17B ∷ [])
     ∷ (read 0 (spread 2 ++ sent 0x7B nak ++ checked 8 0x80)
     gives 0 ∷ 1 ∷ broadcast endBrokenData 2 1 0 ∷ parties ∷ 0x17B ∷ [])
-    ∷ (cutEverywhere [] 65 gives endsEverywhere)
-    ∷ (cutEverywhere (slotIdle ∷ 1 ∷ 1 ∷ []) 65 gives endsEverywhere)
-    ∷ (cutEverywhere (slotStart ∷ 1 ∷ []) 65 gives endsEverywhere)
+    ∷ (cutEverywhere individualTwo [] 65 gives endsEverywhere)
+    ∷ (cutEverywhere individualTwo (slotIdle ∷ 1 ∷ 1 ∷ []) 65 gives endsEverywhere)
+    ∷ (cutEverywhere individualTwo (slotStart ∷ 1 ∷ []) 65 gives endsEverywhere)
+    ∷ (cutEverywhere broadcastTwo [] 65 gives endsEverywhere)
     ∷ []
 
 -- ---- what counts as ACKed
@@ -156,6 +163,9 @@ dataCases =
     -- behind the last byte of a whole frame nothing is read
     ∷ (read 0 (sized 1 ++ sent 0x7B ack ++ sent 0x80 ack)
     gives 0 ∷ 1 ∷ individual endWhole 1 1 0 ∷ parties ∷ 0x17B ∷ [])
+    -- every bit of each field is read; "FFH is 255"
+    ∷ (read 0 (slotStart ∷ 1 ∷ checked 12 0xFED ++ answered 12 0xEDF ack ++ answered 4 8 ack ++ answered 8 0xFF ack)
+    gives 0 ∷ 1 ∷ (0x2A + 8 * 0x40 + 255 * 0x400) ∷ 0xED_FFED ∷ [])
     -- in a broadcast A says nothing, and P says what counts
     ∷ (read 0 (spread 2 ++ sent 0x7B nak ++ sent 0x80 nak)
     gives 0 ∷ 1 ∷ broadcast endWhole 2 2 0 ∷ parties ∷ 0x17B ∷ 0x180 ∷ [])
@@ -167,6 +177,7 @@ dataCases =
     gives 0 ∷ 1 ∷ broadcast endShort 2 1 0 ∷ parties ∷ 0x280 ∷ [])
     ∷ (read 0 (spread 2 ++ sent 0x7B nak ++ missent 0x80 nak)
     gives 0 ∷ 1 ∷ broadcast endShort 2 1 1 ∷ parties ∷ 0x17B ∷ [])
+    ∷ (read 0 (spread 3 ++ times 2 (missent 0x7B nak)) gives 0 ∷ 1 ∷ broadcast endShort 3 0 2 ∷ parties ∷ [])
     ∷ []
 
 -- ---- "at most 16 attempts (mode 0) or 32 (mode 1) per frame; a repeated byte is an attempt"
@@ -195,6 +206,7 @@ limitCases =
     gives 0 ∷ 1 ∷ individual endShort 1 0 16 ∷ parties ∷ [])
     ∷ (read 1 (sized 1 ++ times 31 (sent 0x7B nak) ++ sent 0x7B ack)
     gives 0 ∷ 1 ∷ individual endWhole 1 1 0 ∷ parties ∷ 0x207B ∷ [])
+    ∷ (read 1 (sized 1 ++ times 32 (sent 0x7B nak)) gives 0 ∷ 1 ∷ individual endShort 1 0 32 ∷ parties ∷ [])
     ∷ []
 
 -- ---- "again"
@@ -257,6 +269,7 @@ listCases =
     ∷ (readInto 2 0 (slotStart ∷ 1 ∷ 4 ∷ []) gives 12 ∷ 99 ∷ [])
     ∷ (readInto 2 0 (slotStart ∷ 1 ∷ 1 ∷ []) gives 12 ∷ 99 ∷ [])
     ∷ (readInto 3 0 (slotStart ∷ 1 ∷ 4 ∷ []) gives 16 ∷ 99 ∷ [])
+    ∷ (readInto 4 0 (slotStart ∷ slotIdle ∷ 0 ∷ 0x10 ∷ []) gives 16 ∷ 99 ∷ [])
     ∷ (readInto 9 0 (0x8000_0002 ∷ slotStart ∷ 1 ∷ []) gives 16 ∷ 99 ∷ [])
     ∷ (readInto 9 0 (slotStart ∷ 1 ∷ 1 ∷ []) gives 0 ∷ 1 ∷ 0x26 ∷ [])
     ∷ []
