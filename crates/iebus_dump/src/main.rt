@@ -4,7 +4,7 @@
 //
 // Only the first 16,384 words are read. A frame that goes on behind them is shown as cut there, and the last line is
 // `more`; a log may be read on from that frame's start word. A log that is refused has neither `more` nor `short`. The
-// status is 0 in every case.
+// status is 0 whatever the log is.
 ghost use mathlib.Core.Path.{_≡_};
 ghost use mathlib.Core.List.{_++_};
 ghost use Prim.Native.Nat.{_≤_};
