@@ -1,16 +1,14 @@
 /* The proved reader of line logs, the second model's and a plain one over the same log.
 
-   logs KIND SLOTS RUNS
+   logs KIND SLOTS
 
-   Draws a log of so many slots with a fixed seed, `busy` or `mixed`, and lets each reader read it RUNS times, in turns,
-   so that other work on the machine meets all of them. Prints the best slots per second of each: plain, model, proved.
-   Fails where a record differs, because the speed of wrong records says nothing. */
+   Draws a log of so many slots with a fixed seed, `busy`, `mixed`, `cut` or `starts`, and lets each reader read it
+   once. Fails where a record differs, because the cost of wrong records says nothing. */
 #include <stdbool.h>
 #include <stdio.h>
 #include <stdlib.h>
 #include <string.h>
 
-#include "clock.h"
 #include "iebus.h"
 
 #include "lent.h"
@@ -23,8 +21,22 @@ static log_reader *const readers[] = {plain_read_log, model_read_log, iebus_read
 
 enum { READERS = sizeof readers / sizeof *readers };
 
+struct log_kind {
+    const char *name;
+    void (*draw)(struct random *r, struct log *log);
+};
+
+static const struct log_kind kinds[] = {
+    {"busy", draw_busy_log},
+    {"mixed", draw_mixed_log},
+    {"cut", draw_cut_log},
+    {"starts", draw_starts_log},
+};
+
+enum { KINDS = sizeof kinds / sizeof *kinds };
+
 /* Each reader once: whether all records are the first reader's, which come to stand in `expected`. */
-static bool turn(const struct log *log, uint32_t *expected, uint32_t *records, double *best)
+static bool read_alike(const struct log *log, uint32_t *expected, uint32_t *records)
 {
     uint64_t frames[READERS];
     size_t bytes = log->len * sizeof *records;
@@ -32,27 +44,26 @@ static bool turn(const struct log *log, uint32_t *expected, uint32_t *records, d
         uint32_t *to = i == 0 ? expected : records;
         /* the same in both lists, as the places past the records keep it */
         memset(to, UNTOUCHED_BYTE, bytes);
-        double begin = seconds();
         uint32_t refusal = readers[i](log->mode, log->slots, log->len, to, log->len, &frames[i]);
-        double rate = (double)log->len / (seconds() - begin);
         if (refusal || frames[i] != frames[0] || memcmp(to, expected, bytes))
             return false;
-        best[i] = rate > best[i] ? rate : best[i];
     }
     return true;
 }
 
-static bool measure(const struct log *log, long runs)
+static bool measure(const struct log_kind *kind, size_t slots)
 {
-    uint32_t *expected = malloc(log->len * sizeof *expected), *records = malloc(log->len * sizeof *records);
-    double best[READERS] = {0};
-    bool alike = expected && records;
-    for (long i = 0; i < runs && alike; i++)
-        alike = turn(log, expected, records, best);
-    if (alike)
-        printf("%.0f %.0f %.0f\n", best[0], best[1], best[2]);
-    else
-        fputs("logs: the records differ\n", stderr);
+    struct log log = {.mode = MODE, .room = slots, .slots = malloc(slots * sizeof *log.slots)};
+    uint32_t *expected = malloc(slots * sizeof *expected), *records = malloc(slots * sizeof *records);
+    struct random r = random_seeded(SEED);
+    bool alike = false;
+    if (log.slots && expected && records) {
+        kind->draw(&r, &log);
+        alike = read_alike(&log, expected, records);
+    }
+    if (!alike)
+        fputs("logs: the records differ, or there is no room\n", stderr);
+    free(log.slots);
     free(expected);
     free(records);
     return alike;
@@ -60,18 +71,9 @@ static bool measure(const struct log *log, long runs)
 
 int main(int argc, char **argv)
 {
-    bool busy = argc == 4 && strcmp(argv[1], "busy") == 0;
-    if (argc != 4 || (!busy && strcmp(argv[1], "mixed") != 0)) {
-        fputs("logs busy|mixed SLOTS RUNS\n", stderr);
-        return 2;
-    }
-    struct log log = {.mode = MODE, .room = strtoul(argv[2], NULL, 10)};
-    struct random r = random_seeded(SEED);
-    log.slots = malloc(log.room * sizeof *log.slots);
-    if (!log.slots)
-        return 1;
-    (busy ? draw_busy_log : draw_mixed_log)(&r, &log);
-    bool well = measure(&log, strtol(argv[3], NULL, 10));
-    free(log.slots);
-    return !well;
+    for (int i = 0; i < KINDS && argc == 3; i++)
+        if (strcmp(argv[1], kinds[i].name) == 0)
+            return !measure(&kinds[i], strtoul(argv[2], NULL, 10));
+    fputs("logs busy|mixed|cut|starts SLOTS\n", stderr);
+    return 2;
 }

@@ -12,7 +12,7 @@ static void read_frame(const struct line *l, uint32_t record[LINE_SLOTS])
 {
     uint64_t frames;
     if (iebus_read_log(MODE, l->slots, l->count, record, LINE_SLOTS, &frames) != 0 || frames != 1) {
-        fprintf(stderr, "frame %u is none\n", l->frames);
+        fprintf(stderr, "frame %u: its slots do not read as one frame\n", l->frames);
         exit(2);
     }
 }

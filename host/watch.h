@@ -4,7 +4,7 @@
 
 #include "line.h"
 
-/* The master's address, -1 as long as it is not out. */
+/* The master's address, -1 until its P is out too. */
 int watch_master(const struct line *l);
 
 /* One line for the frame, and one with its bytes if it had any. */

@@ -61,8 +61,8 @@ uint32_t iebus_unit_reset(uint8_t *state, size_t state_len);
 uint32_t iebus_unit_run(uint8_t *state, size_t state_len, const uint8_t *words, size_t words_len, uint8_t *answers,
                         size_t answers_len);
 
-/* The same from a reset unit, which is forgotten afterwards: for a whole list at once, to check a log of a line or to
-   try something out. Gives 0, 11 or 12 as above. */
+/* The same from a reset unit, which is forgotten afterwards: for a whole list at once, to run a unit's recorded words
+   again or to try something out. Gives 0, 11 or 12 as above. */
 uint32_t iebus_run(const uint8_t *words, size_t words_len, uint8_t *answers, size_t answers_len);
 
 /* One of several masters that begin with the same start slot: its broadcast bit as it drives it, 0 for a broadcast,
@@ -97,8 +97,9 @@ static inline unsigned iebus_contest_place(uint32_t result)
 }
 
 /* Reads a log of the whole line: slot words as IEBUS_SLOT_LOW .. IEBUS_SLOT_IDLE name them, in the order of the line.
-   Each start word begins a frame, and `*frames` gets their number. A frame's levels go on up to the next start, idle or
-   the list's end; levels outside frames are passed over. `mode` is 0 for 16 attempts, any other for 32.
+   Each start word begins a frame, and `*frames` gets their number. A frame's levels go on up to the next start, idle
+   or the list's end. Those behind its own end (a NAK in its header, its last byte, the last attempt) are passed over,
+   as levels outside frames are. `mode` is 0 for 16 attempts, any other for 32.
 
    Each frame has a record of 1 to 34 words (below), in order, one behind the other from records[0] on. Places past the
    last record keep their contents. The records of any n slots fit in n words. From a start word on the records are
@@ -314,12 +315,15 @@ enum {
    A record is its first word, then, where the master address is given, a second word, then a word for each byte that
    was ACKed, in order. All records of a log:
 
-       for (const uint32_t *record = records; frames-- > 0; record += iebus_record_words(record[0]))
+       const uint32_t *record = records;
+       for (uint64_t frame = 0; frame < frames; frame++) {
            for (unsigned i = 0; i < IEBUS_RECORD_ACKED(record[0]); i++)
-               use(IEBUS_RECORD_BYTE(iebus_record_bytes(record)[i])); */
+               use(IEBUS_RECORD_BYTE(iebus_record_bytes(record)[i]));
+           record += iebus_record_words(record[0]);
+       } */
 
-/* How a frame ended. NAK ends a frame to one slave alone; in a broadcast nobody answers. "Broken off" is cut by idle, a
-   start or the list's end, in the field whose slot would have come next. */
+/* How a frame ended. NAK ends a frame to one slave alone; in a broadcast nobody answers. "Broken off" is cut by idle,
+   a start or the list's end, in the field whose slot would have come next. */
 enum {
     IEBUS_END_WHOLE = 0,            /* all its bytes were ACKed; in a broadcast, had good parity */
     IEBUS_END_SHORT = 1,            /* not all, and it ended after a complete attempt at a byte */
@@ -334,11 +338,14 @@ enum {
     IEBUS_END_BROKEN_DATA = 10
 };
 
-/* The fields of a first word. A field is given where all its slots are on the line (iebus_record_fields), else it is 0;
-   the broadcast bit is as on the line, 0 for a broadcast. Attempts are complete ones, with their A slot; those after
-   the last ACKed byte are all that were made where none was ACKed. */
+/* The fields of a first word. A field is given where all its slots are on the line (iebus_record_fields), else it is
+   0. The broadcast bit is as on the line, 0 for a broadcast; look at it only where at least 1 field is given. Attempts
+   are complete ones, with their A slot; those after the last ACKed byte are all that were made where none was ACKed.
+
+   A frame is "again" exactly if the same fields are given as in the record before, and they and the ACKed bytes are
+   equal, whatever the endings, P, A or attempts. The first record never is; the second of two bare starts is. */
 #define IEBUS_RECORD_END(first) ((unsigned)((uint32_t)(first) & 0xF))
-#define IEBUS_RECORD_AGAIN(first) ((unsigned)((uint32_t)(first) >> 4 & 1))       /* says what the frame before said */
+#define IEBUS_RECORD_AGAIN(first) ((unsigned)((uint32_t)(first) >> 4 & 1))
 #define IEBUS_RECORD_BIT(first) ((unsigned)((uint32_t)(first) >> 5 & 1))
 #define IEBUS_RECORD_CONTROL(first) ((unsigned)((uint32_t)(first) >> 6 & 0xF))
 #define IEBUS_RECORD_LENGTH(first) ((unsigned)((uint32_t)(first) >> 10 & 0x1FF)) /* 1 to 256 */

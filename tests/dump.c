@@ -1,6 +1,7 @@
 /* What `iebus_dump` has to print, over the second model's reader: the second opinion on its text.
 
    dump draw SEED      a random log, as the bytes that the program reads
+   dump late           a log of one frame, whose byte is ACKed at the 17th attempt
    dump print [1]      the text for the log on standard input, in mode 0 or 1 */
 #include <stdio.h>
 #include <stdlib.h>
@@ -8,6 +9,7 @@
 
 #include "reader.h"
 #include "records.h"
+#include "traffic/fields.h"
 #include "traffic/logs.h"
 #include "words.h"
 
@@ -32,16 +34,35 @@ static const char *const endings[] = {
     "broken off in data",
 };
 
+static int put_words(const uint32_t *words, size_t count)
+{
+    for (size_t i = 0; i < count; i++)
+        for (int byte = 0; byte < WORD_BYTES; byte++)
+            putchar((int)(words[i] >> 8 * byte & 0xFF));
+    return ferror(stdout);
+}
+
 static int draw(unsigned long seed)
 {
     static uint32_t slots[MOST_LOG_SLOTS];
     struct log log = {.slots = slots, .room = MOST_LOG_SLOTS};
     struct random r = random_seeded(seed);
     draw_log(&r, &log);
-    for (size_t i = 0; i < log.len; i++)
-        for (int byte = 0; byte < WORD_BYTES; byte++)
-            putchar((int)(log.slots[i] >> 8 * byte & 0xFF));
-    return ferror(stdout);
+    return put_words(log.slots, log.len);
+}
+
+/* All 16 attempts of mode 0 are in vain. */
+static int late(void)
+{
+    uint32_t slots[MOST_LOG_SLOTS] = {SLOT_START, 1};
+    size_t len = 2;
+    len += put_field(slots + len, 0x180, ADDRESS_BITS, false, A_NONE);
+    len += put_field(slots + len, 0x22C, ADDRESS_BITS, false, A_ACK);
+    len += put_field(slots + len, CONTROL_DATA, CONTROL_BITS, false, A_ACK);
+    len += put_field(slots + len, 1, BYTE_BITS, false, A_ACK);
+    for (int attempt = 0; attempt <= ATTEMPTS_MODE_0; attempt++)
+        len += put_field(slots + len, 0xA5, BYTE_BITS, false, attempt < ATTEMPTS_MODE_0 ? A_NAK : A_ACK);
+    return put_words(slots, len);
 }
 
 static void print_frame(size_t place, const uint32_t *record)
@@ -94,8 +115,10 @@ int main(int argc, char **argv)
 {
     if (argc == 3 && strcmp(argv[1], "draw") == 0)
         return draw(strtoul(argv[2], NULL, 10));
+    if (argc == 2 && strcmp(argv[1], "late") == 0)
+        return late();
     if (argc >= 2 && strcmp(argv[1], "print") == 0)
         return print(argc == 3 && strcmp(argv[2], "1") == 0);
-    fputs("dump draw SEED | dump print [1]\n", stderr);
+    fputs("dump draw SEED | dump late | dump print [1]\n", stderr);
     return 2;
 }

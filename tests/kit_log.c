@@ -125,7 +125,8 @@ static void walk(const uint32_t *record)
 }
 
 /* Numbers at their largest, where the frames before have them small: 256 bytes, 32 of them ACKed, and once more; one
-   byte at its 32nd attempt; 32 attempts in vain; then a broadcast. */
+   byte at its 32nd attempt; 32 attempts in vain; then a broadcast. Last, odd numbers above the control and above the
+   number of ACKed bytes, so that a macro that reads a bit too many shows. */
 static struct log long_frames(void)
 {
     struct log log;
@@ -141,6 +142,9 @@ static struct log long_frames(void)
     put_bytes(&log, 32, 1);
     put_header(&log, 0, 2);
     put_bytes(&log, 2, 1);
+    put_header(&log, 1, 3);
+    put_bytes(&log, 2, 0);
+    put_bytes(&log, 1, 1);
     return log;
 }
 
@@ -151,23 +155,33 @@ static bool broadcast_comes_back(const uint32_t *record)
            && IEBUS_RECORD_SLAVE(record[1]) == 0xFFF - SLAVE;
 }
 
+static void odd_numbers(const uint32_t *record)
+{
+    check("a control below an odd length comes back", IEBUS_RECORD_CONTROL(record[0]) == 0xF - CONTROL);
+    check("2 bytes below an odd number of attempts come back", IEBUS_RECORD_ACKED(record[0]) == 2);
+    check("these come back too", IEBUS_RECORD_LENGTH(record[0]) == 3 && IEBUS_RECORD_UNACKED(record[0]) == 1);
+}
+
 static void extremes(void)
 {
     struct log log = long_frames();
     uint32_t records[ROOM];
     uint64_t frames = 0;
     check("a log of long frames is read", iebus_read_log(1, log.slots, log.count, records, ROOM, &frames) == 0);
-    check("it has five", frames == 5);
+    check("it has six", frames == 6);
     const uint32_t *full = records, *again = full + iebus_record_words(full[0]);
     const uint32_t *late = again + iebus_record_words(again[0]), *vain = late + iebus_record_words(late[0]);
+    const uint32_t *broadcast = vain + iebus_record_words(vain[0]);
     check("a length of 256 comes back", IEBUS_RECORD_LENGTH(full[0]) == 256);
     check("32 bytes come back", IEBUS_RECORD_ACKED(full[0]) == 32);
     check("the last of them too", IEBUS_RECORD_BYTE(iebus_record_bytes(full)[31]) == 0xFF - 31);
     check("a frame that is said again is told", IEBUS_RECORD_AGAIN(again[0]) == 1 && IEBUS_RECORD_AGAIN(full[0]) == 0);
+    check("its ending comes back", IEBUS_RECORD_END(again[0]) == IEBUS_END_SHORT);
     check("a length of 255 comes back", IEBUS_RECORD_LENGTH(late[0]) == 255);
     check("a byte at its 32nd attempt comes back", IEBUS_RECORD_ATTEMPTS(iebus_record_bytes(late)[0]) == 32);
     check("32 attempts in vain come back", IEBUS_RECORD_UNACKED(vain[0]) == 32 && IEBUS_RECORD_ACKED(vain[0]) == 0);
-    check("a broadcast comes back", broadcast_comes_back(vain + iebus_record_words(vain[0])));
+    check("a broadcast comes back", broadcast_comes_back(broadcast));
+    odd_numbers(broadcast + iebus_record_words(broadcast[0]));
 }
 
 static void refusals(struct log *log, uint32_t *records)

@@ -381,3 +381,22 @@ void draw_busy_log(struct random *r, struct log *log)
             put(log, SLOT_IDLE);
     }
 }
+
+void draw_cut_log(struct random *r, struct log *log)
+{
+    log->len = 0;
+    while (log->len < log->room) {
+        put(log, SLOT_START);
+        put_levels(r, log, random_below(r, PLACE_OF_SLAVE + 1));
+        if (random_below(r, 2))
+            put(log, SLOT_IDLE);
+    }
+}
+
+void draw_starts_log(struct random *r, struct log *log)
+{
+    (void)r;
+    log->len = 0;
+    while (log->len < log->room)
+        put(log, SLOT_START);
+}

@@ -29,4 +29,10 @@ void draw_mixed_log(struct random *r, struct log *log);
 /* Fills the room with whole frames, as on a line where everything works. */
 void draw_busy_log(struct random *r, struct log *log);
 
+/* Fills the room with frames cut short, 0 to 14 levels each: none gives more than its master address. */
+void draw_cut_log(struct random *r, struct log *log);
+
+/* Fills the room with start words, the shortest frames that there are; nothing is drawn. */
+void draw_starts_log(struct random *r, struct log *log);
+
 #endif

@@ -1,6 +1,10 @@
-// The program `iebus_dump`: it reads the slot words of a line from standard input, 32 bits each, little-endian, at most
-// 16,384, and prints a line for each frame, as `candump` does for CAN. Mode 0 (16 attempts), or mode 1 (32) where the
-// first argument is `1`. What it prints is made by `dumped`, whose contract says all of it.
+// The program `iebus_dump`: it reads the slot words of a line from standard input, 32 bits each, little-endian, and
+// prints a line for each frame, as `candump` does for CAN. Mode 1 (32 attempts) where the first argument is `1`, else
+// mode 0 (16). What it prints is made by `dumped`, whose contract says all of it.
+//
+// Only the first 16,384 words are read. A frame that goes on behind them is shown as cut there, and the last line is
+// `more`; a log may be read on from that frame's start word. A log that is refused has neither `more` nor `short`. The
+// status is 0 whatever the log is.
 ghost use mathlib.Core.Path.{_≡_};
 ghost use mathlib.Core.List.{_++_};
 ghost use Prim.Native.Nat.{_≤_};
