@@ -10,9 +10,9 @@ use Rattle.line.specs.Choice.{bitOf, pick}
 use Rattle.line.specs.Numbers.{endBrokenBit, endBrokenControl, endBrokenData, endBrokenLength, endBrokenMaster}
 use Rattle.line.specs.Numbers.{endBrokenSlave, endNakControl, endNakLength, endNakSlave, endShort, endWhole, slotStart}
 use Rattle.line.specs.Parity.{levelsOf, parityHolds}
-use Rattle.logs.specs.Frames.{Low, framesOf, levelsFrom, strayIn}
+use Rattle.logs.specs.Frames.{framesOf, levelsFrom, strayIn}
 use Rattle.logs.specs.Data.{Acked, byteIn, counts, noByte}
-use Rattle.logs.specs.Readings.{Reading, bitIn, controlIn, lengthOf, masterIn, readOf, slaveIn}
+use Rattle.logs.specs.Readings.{Reading, readOf}
 use Rattle.logs.specs.Records.{Before, Record, againAfter, byteWord, firstWord, frame, none, recordsOf}
 use Rattle.logs.specs.Records.{recordWords, secondWord, wordsOf}
 
@@ -52,14 +52,18 @@ pub record Exactly (mark : Bool) (Holds : Type 0) : Type 0 where
   pub only : mark ≡ true → Holds
   pub always : Holds → mark ≡ true
 
+-- a field of a frame: broadcast bit, master address, slave address, control, length; "else it is 0"
+abbrev pub fieldIn : ℕ → Reading → ℕ
+fieldIn i r = getD (r .given) i 0
+
 -- how many fields are given, of a frame that ended so
 unfoldable pub fieldsAt : ℕ → ℕ
 fieldsAt ending = getD (5 ∷ 5 ∷ 3 ∷ 4 ∷ 5 ∷ 0 ∷ 1 ∷ 2 ∷ 3 ∷ 4 ∷ 5 ∷ []) ending 0
 
 -- "length (1 to 256)", where it is given; how many bytes and attempts there can be; an ACKed byte took one at least
 pub record Ranges (r : Reading) : Type 0 where
-  pub bytes-least : length (r .given) ≡ 5 → 1 ≤ lengthOf r
-  pub bytes-most : lengthOf r ≤ 256
+  pub bytes-least : length (r .given) ≡ 5 → 1 ≤ fieldIn 4 r
+  pub bytes-most : fieldIn 4 r ≤ 256
   pub acked-most : length (r .text .acked) ≤ 32
   pub unacked-most : r .text .unacked ≤ 32
   pub attempts-least : (i : ℕ) → i < length (r .text .acked) → 1 ≤ getD (r .text .acked) i noByte .attempts
@@ -78,14 +82,14 @@ pub record TakenApart (r : Record) : Type 0 where
   pub first-within : firstWord r < 0x8000_0000
   pub ending : firstWord r % 0x10 ≡ r .reading .text .ending
   pub again : firstWord r / 0x10 % 2 ≡ bitOf (r .again)
-  pub bit : firstWord r / 0x20 % 2 ≡ bitIn (r .reading)
-  pub control : firstWord r / 0x40 % 0x10 ≡ controlIn (r .reading)
-  pub bytes : firstWord r / 0x400 % 0x200 ≡ lengthOf (r .reading)
+  pub bit : firstWord r / 0x20 % 2 ≡ fieldIn 0 (r .reading)
+  pub control : firstWord r / 0x40 % 0x10 ≡ fieldIn 3 (r .reading)
+  pub bytes : firstWord r / 0x400 % 0x200 ≡ fieldIn 4 (r .reading)
   pub acked : firstWord r / 0x8_0000 % 0x40 ≡ length (r .reading .text .acked)
   pub unacked : firstWord r / 0x200_0000 ≡ r .reading .text .unacked
   pub second-within : secondWord (r .reading) < 0x100_0000
-  pub master : secondWord (r .reading) % 0x1000 ≡ masterIn (r .reading)
-  pub slave : secondWord (r .reading) / 0x1000 ≡ slaveIn (r .reading)
+  pub master : secondWord (r .reading) % 0x1000 ≡ fieldIn 1 (r .reading)
+  pub slave : secondWord (r .reading) / 0x1000 ≡ fieldIn 2 (r .reading)
   pub byte-within : (i : ℕ) → byteWord (getD (r .reading .text .acked) i noByte) < 0x4000
   pub byte : (i : ℕ) → byteWord (getD (r .reading .text .acked) i noByte) % 0x100
       ≡ getD (r .reading .text .acked) i noByte .byte
@@ -172,7 +176,7 @@ abbrev pub limitOf : Bool → ℕ
 limitOf long = pick long 32 16
 
 abbrev pub mostOf : Bool → Reading → ℕ
-mostOf long r = pick (eqb (bitIn r) 0) (min (lengthOf r) (limitOf long)) (limitOf long)
+mostOf long r = pick (eqb (fieldIn 0 r) 0) (min (fieldIn 4 r) (limitOf long)) (limitOf long)
 
 abbrev pub madeOf : Bool → Reading → List ℕ → List (List ℕ)
 madeOf long r levels = attemptsIn (mostOf long r) levels
@@ -186,14 +190,18 @@ stops most made slots = eqb made most || (ltb 0 made && eqb slots (made * 10))
 -- if its bytes are all there, else short if it stops after a complete attempt, else broken off
 pub record DataSays (long : Bool) (levels : List ℕ) (r : Reading) : Type 0 where
   pub acked : map (λ (a : Acked). a .byte) (r .text .acked)
-      ≡ take (lengthOf r) (countedIn (eqb (bitIn r) 0) (madeOf long r levels))
+      ≡ take (fieldIn 4 r) (countedIn (eqb (fieldIn 0 r) 0) (madeOf long r levels))
   pub took : sumsFrom 0 (r .text .acked)
-      ≡ take (lengthOf r) (numbersIn 1 (eqb (bitIn r) 0) (madeOf long r levels))
+      ≡ take (fieldIn 4 r) (numbersIn 1 (eqb (fieldIn 0 r) 0) (madeOf long r levels))
   pub unacked : sumOf (r .text .acked) + r .text .unacked
-      ≡ pick (eqb (length (r .text .acked)) (lengthOf r)) (sumOf (r .text .acked)) (length (madeOf long r levels))
+      ≡ pick (eqb (length (r .text .acked)) (fieldIn 4 r)) (sumOf (r .text .acked)) (length (madeOf long r levels))
   pub ending : r .text .ending
-      ≡ pick (eqb (length (r .text .acked)) (lengthOf r)) endWhole
+      ≡ pick (eqb (length (r .text .acked)) (fieldIn 4 r)) endWhole
       (pick (stops (mostOf long r) (length (madeOf long r levels)) (length levels)) endShort endBrokenData)
+
+-- every word of a list is a level
+abbrev pub Levels : List ℕ → Type 0
+Levels slots = (i : ℕ) → getD slots i 0 < 2
 
 -- what a user relies on, of every list
 pub record Relied (long : Bool) : Type 0 where
@@ -201,9 +209,9 @@ pub record Relied (long : Bool) : Type 0 where
   pub stray : (slots : List ℕ) (i : ℕ) → 3 < getD slots i 0 → strayIn slots ≡ true
   pub no-stray : (slots : List ℕ) → ((i : ℕ) → getD slots i 0 ≤ 3) → strayIn slots ≡ false
   -- a frame's levels go on up to the next start or idle; "the list's end breaks a frame off as idle does"
-  pub levels-end : (levels : List ℕ) (w : ℕ) (later : List ℕ) → Low levels → slotStart ≤ w
+  pub levels-end : (levels : List ℕ) (w : ℕ) (later : List ℕ) → Levels levels → 2 ≤ w
       → levelsFrom (levels ++ w ∷ later) ≡ levels
-  pub list-end : (levels : List ℕ) → Low levels → levelsFrom levels ≡ levels
+  pub list-end : (levels : List ℕ) → Levels levels → levelsFrom levels ≡ levels
   -- a start begins one, wherever it stands, and nothing else does
   pub begins : (earlier later : List ℕ)
       → framesOf (earlier ++ slotStart ∷ later) ≡ framesOf earlier ++ levelsFrom later ∷ framesOf later
