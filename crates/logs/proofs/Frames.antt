@@ -12,9 +12,11 @@ use lib.Seq.{getD-drop}
 use Rattle.line.specs.Choice.{bitOf, pick}
 use Rattle.line.specs.Numbers.{slotIdle, slotStart}
 use Rattle.logs.specs.Frames.{Low, framesOf, levelsFrom, strayIn}
+use Rattle.logs.specs.Log.{endOf}
 use Rattle.logs.specs.Relied.{startsIn}
+use Rattle.logs.specs.declared.LogRead.the-variants.{Frames, ShortList, NoSlot}
 
-pub stray-found : (slots : List ℕ) (i : ℕ) → 3 < getD slots i 0 → strayIn slots ≡ true
+stray-found : (slots : List ℕ) (i : ℕ) → 3 < getD slots i 0 → strayIn slots ≡ true
 unfolding strayIn
 stray-found [] i h = absurd (omega arith)
 stray-found (w ∷ ws) zero h = rw (lt-ltb slotIdle w h)
@@ -24,7 +26,7 @@ stray-found (w ∷ ws) (suc i) h = by (ltb slotIdle w) (stray-found ws i h)
     by true later = refl
     by false later = later
 
-pub none-stray : (slots : List ℕ) → ((i : ℕ) → getD slots i 0 ≤ 3) → strayIn slots ≡ false
+none-stray : (slots : List ℕ) → ((i : ℕ) → getD slots i 0 ≤ 3) → strayIn slots ≡ false
 unfolding strayIn
 none-stray [] h = refl
 none-stray (w ∷ ws) h = rw (le-ltb slotIdle w (h 0)) (none-stray ws (λ i. h (suc i)))
@@ -88,3 +90,18 @@ frames-counted (w ∷ ws) = by (eqb w slotStart) (frames-counted ws)
         → length (pick t (levelsFrom ws ∷ framesOf ws) (framesOf ws)) ≡ bitOf t + startsIn ws
     by true e = omega arith
     by false e = omega arith
+
+-- ---- how a reading ends
+
+module _ (room : ℕ) (slots : List ℕ) where
+  pub short-list : room < length slots → endOf room slots ≡ ShortList
+  unfolding endOf
+  short-list short = rw (lt-ltb room (length slots) short)
+
+  pub no-slot : (i : ℕ) → length slots ≤ room → 3 < getD slots i 0 → endOf room slots ≡ NoSlot
+  unfolding endOf
+  no-slot i there over = rw (le-ltb room (length slots) there, stray-found slots i over)
+
+  pub all-slots : length slots ≤ room → ((i : ℕ) → getD slots i 0 ≤ 3) → endOf room slots ≡ Frames (startsIn slots)
+  unfolding endOf
+  all-slots there low = rw (le-ltb room (length slots) there, none-stray slots low, frames-counted slots)

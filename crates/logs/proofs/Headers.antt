@@ -15,27 +15,27 @@ use Rattle.line.proofs.Either.{below-or-not}
 use Rattle.line.proofs.Levels.{level-split}
 use Rattle.line.specs.Choice.{pick}
 use Rattle.line.specs.Numbers.{endBrokenData}
-use Rattle.line.specs.Parity.{levelOf, levelsOf, parityHolds}
+use Rattle.line.specs.Parity.{levelOf, parityHolds}
 use Rattle.logs.specs.Data.{byteIn, counts}
 use Rattle.logs.specs.Fields.{Field, endIn, givenIn, header, lengthIn, nakAt, numberAt, numberFrom, valueIn}
 use Rattle.logs.specs.Readings.{dataOf, readOf}
-use Rattle.logs.specs.Relied.{AttemptSays, Gives, HeaderSays, fieldsOf, headerEnd, headerOf, nakIn}
+use Rattle.logs.specs.Relied.{AttemptSays, Gives, HeaderSays, bitsOf, fieldsOf, headerEnd, headerOf, nakIn}
 use Rattle.logs.proofs.Readings.{data-within}
 
 -- ---- what was sent
 
 -- levels say the number that they were made of
-said-from : (bits field : ℕ) → numberFrom (field / 2 ^ bits) (levelsOf bits field) ≡ field
-unfolding numberFrom levelsOf
+said-from : (bits field : ℕ) → numberFrom (field / 2 ^ bits) (bitsOf bits field) ≡ field
+unfolding numberFrom levelOf bitsOf
 said-from zero field = div-one field
 said-from (suc bits) field =
     let split = level-split bits field in
     let next : field / 2 ^ suc bits * 2 + levelOf bits field ≡ field / 2 ^ bits = omega arith in
-    ap (λ (n : ℕ). numberFrom n (levelsOf bits field)) next ∙ said-from bits field
+    ap (λ (n : ℕ). numberFrom n (bitsOf bits field)) next ∙ said-from bits field
 
-number-said : (bits field : ℕ) → field < 2 ^ bits → numberFrom 0 (levelsOf bits field) ≡ field
+number-said : (bits field : ℕ) → field < 2 ^ bits → numberFrom 0 (bitsOf bits field) ≡ field
 number-said bits field low =
-    ap (λ (n : ℕ). numberFrom n (levelsOf bits field)) (sym (div-eq-of-lt low)) ∙ said-from bits field
+    ap (λ (n : ℕ). numberFrom n (bitsOf bits field)) (sym (div-eq-of-lt low)) ∙ said-from bits field
 
 -- what is given is the first of what the slots of the fields say
 given-first : (levels : List ℕ) (fs : List Field)
@@ -56,7 +56,7 @@ sent-values : (bit master slave control byte : ℕ) (p a : ℕ → ℕ) (more : 
     → control < 0x10 → byte < 0x100
     → map (valueIn (headerOf bit master slave control byte p a ++ more)) header
     ≡ fieldsOf bit master slave control byte
-unfolding levelsOf numberFrom
+unfolding bitsOf numberFrom
 sent-values bit master slave control byte p a more m s c b =
     ap₂ _∷_ (omega arith)
     (ap₂ _∷_ (number-said 12 master m)
@@ -64,8 +64,8 @@ sent-values bit master slave control byte p a more m s c b =
     (ap₂ _∷_ (number-said 4 control c) (ap₂ _∷_ (ap lengthIn (number-said 8 byte b)) refl))))
 
 pub attempt-says : (byte p a : ℕ) (more : List ℕ) → byte < 0x100
-    → AttemptSays byte p a (levelsOf 8 byte ++ p ∷ a ∷ more)
-unfolding levelsOf
+    → AttemptSays byte p a (bitsOf 8 byte ++ p ∷ a ∷ more)
+unfolding bitsOf
 attempt-says byte p a more b =
     let said = number-said 8 byte b in
     record { said = said; by-answer = refl; by-parity = ap (λ (n : ℕ). parityHolds n (eqb p 1)) said }

@@ -16,8 +16,8 @@ use Rattle.logs.specs.Records.{Before, none, frame, Record, againAfter, 
 use Rattle.logs.proofs.Again.{equal-exactly}
 use Rattle.logs.proofs.Apart.{in-range, taken-apart}
 use Rattle.logs.proofs.Attempts.{data-says}
-use Rattle.logs.proofs.Frames.{frames-counted, frames-cut, levels-end, levels-low, list-end}
-use Rattle.logs.proofs.Frames.{none-stray, stray-found}
+use Rattle.logs.proofs.Frames.{all-slots, frames-counted, frames-cut, levels-end, levels-low, list-end}
+use Rattle.logs.proofs.Frames.{no-slot, short-list}
 use Rattle.logs.proofs.Headers.{attempt-says, cut, header-ends, header-says, sent}
 use Rattle.logs.proofs.Marks.{each-record, marked-cut, marked-first, marked-length, marked-next, marked-place}
 use Rattle.logs.proofs.Readings.{Bounded, reading-bounded, record-fits}
@@ -62,8 +62,9 @@ bounded long slots =
 pub relied : (long : Bool) → Relied long
 unfolding recordsOf wordsOf
 relied long = record {
-  stray = stray-found;
-  no-stray = none-stray;
+  short-list = short-list;
+  no-slot = no-slot;
+  all-slots = all-slots;
   levels-end = levels-end;
   list-end = list-end;
   begins = frames-cut;

@@ -3,15 +3,17 @@
 use mathlib.Core.Bool.{Bool, true, false, _&&_, _||_}
 use mathlib.Core.Path.{_≡_}
 use mathlib.Core.List.{List, [], _∷_, _++_, map}
-use Prim.Native.Nat.{ℕ, zero, suc, _+_, _*_, _/_, _%_, _<_, _≤_, min}
+use Prim.Native.Nat.{ℕ, zero, suc, _+_, _*_, _/_, _%_, _^_, _<_, _≤_, min}
 use lib.Dec.{eqb, ltb}
 use lib.ListN.{drop, getD, length, take}
 use Rattle.line.specs.Choice.{bitOf, pick}
 use Rattle.line.specs.Numbers.{endBrokenBit, endBrokenControl, endBrokenData, endBrokenLength, endBrokenMaster}
 use Rattle.line.specs.Numbers.{endBrokenSlave, endNakControl, endNakLength, endNakSlave, endShort, endWhole, slotStart}
-use Rattle.line.specs.Parity.{levelsOf, parityHolds}
-use Rattle.logs.specs.Frames.{framesOf, levelsFrom, strayIn}
+use Rattle.line.specs.Parity.{parityHolds}
+use Rattle.logs.specs.declared.LogRead.the-variants.{Frames, ShortList, NoSlot}
+use Rattle.logs.specs.Frames.{framesOf, levelsFrom}
 use Rattle.logs.specs.Data.{Acked, byteIn, counts, noByte}
+use Rattle.logs.specs.Log.{endOf}
 use Rattle.logs.specs.Readings.{Reading, readOf}
 use Rattle.logs.specs.Records.{Before, Record, againAfter, byteWord, firstWord, frame, none, recordsOf}
 use Rattle.logs.specs.Records.{recordWords, secondWord, wordsOf}
@@ -100,11 +102,16 @@ pub record TakenApart (r : Record) : Type 0 where
 
 -- ---- the header of a frame once more, by document 01's order of its slots and not by a table of fields
 
--- a header as it stands on the line behind its start, "highest bit first", with any P and A
+-- the levels of a number on the line, "highest bit first"
+unfoldable pub bitsOf : ℕ → ℕ → List ℕ
+bitsOf zero n = []
+bitsOf (suc bits) n = n / 2 ^ bits % 2 ∷ bitsOf bits n
+
+-- a header as it stands there behind its start, with any P and A
 abbrev pub headerOf : (bit master slave control byte : ℕ) (p a : ℕ → ℕ) → List ℕ
 headerOf bit master slave control byte p a =
-    bit ∷ levelsOf 12 master ++ p 1 ∷ levelsOf 12 slave ++ p 2 ∷ a 2 ∷ levelsOf 4 control ++ p 3 ∷ a 3
-    ∷ levelsOf 8 byte ++ p 4 ∷ a 4 ∷ []
+    bit ∷ bitsOf 12 master ++ p 1 ∷ bitsOf 12 slave ++ p 2 ∷ a 2 ∷ bitsOf 4 control ++ p 3 ∷ a 3
+    ∷ bitsOf 8 byte ++ p 4 ∷ a 4 ∷ []
 
 -- what its fields say; "length 00H means 256"
 abbrev pub fieldsOf : (bit master slave control byte : ℕ) → List ℕ
@@ -205,9 +212,13 @@ Levels slots = (i : ℕ) → getD slots i 0 < 2
 
 -- what a user relies on, of every list
 pub record Relied (long : Bool) : Type 0 where
-  -- "a word that is no slot word", wherever it stands
-  pub stray : (slots : List ℕ) (i : ℕ) → 3 < getD slots i 0 → strayIn slots ≡ true
-  pub no-stray : (slots : List ℕ) → ((i : ℕ) → getD slots i 0 ≤ 3) → strayIn slots ≡ false
+  -- "12, ahead of it, a lent answer list shorter than the slot list"; "16, a word that is no slot word", wherever it
+  -- stands; else every frame is read
+  pub short-list : (room : ℕ) (slots : List ℕ) → room < length slots → endOf room slots ≡ ShortList
+  pub no-slot : (room : ℕ) (slots : List ℕ) (i : ℕ) → length slots ≤ room → 3 < getD slots i 0
+      → endOf room slots ≡ NoSlot
+  pub all-slots : (room : ℕ) (slots : List ℕ) → length slots ≤ room → ((i : ℕ) → getD slots i 0 ≤ 3)
+      → endOf room slots ≡ Frames (startsIn slots)
   -- a frame's levels go on up to the next start or idle; "the list's end breaks a frame off as idle does"
   pub levels-end : (levels : List ℕ) (w : ℕ) (later : List ℕ) → Levels levels → 2 ≤ w
       → levelsFrom (levels ++ w ∷ later) ≡ levels
@@ -233,7 +244,7 @@ pub record Relied (long : Bool) : Type 0 where
       (readOf long (headerOf bit master slave control byte p a ++ more))
   pub cut : (levels more : List ℕ) → Gives (readOf long (levels ++ more) .given) (readOf long levels)
   pub attempt : (byte p a : ℕ) (more : List ℕ) → byte < 0x100
-      → AttemptSays byte p a (levelsOf 8 byte ++ p ∷ a ∷ more)
+      → AttemptSays byte p a (bitsOf 8 byte ++ p ∷ a ∷ more)
   -- of a frame that ended in its header, and of any other
   pub header-says : (levels : List ℕ) → headerEnd levels < endBrokenData
       → HeaderSays (headerEnd levels) (readOf long levels)
