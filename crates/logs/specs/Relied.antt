@@ -1,5 +1,6 @@
 -- What a user relies on, of every log: laws of the definitions before, told in the words of ticket 1 and by document
--- 01's order of slots, so that a definition that says something else is refused.
+-- 01's order of slots, so that a definition that says something else is refused. Bits, fields and levels are defined
+-- here again: what the laws speak of is then in one file, which is what a fingerprint takes in.
 use mathlib.Core.Bool.{Bool, true, false, _&&_, _||_}
 use mathlib.Core.Path.{_≡_}
 use mathlib.Core.List.{List, [], _∷_, _++_, map}
