@@ -16,7 +16,7 @@ use Rattle.logs.specs.Log.{endOf}
 use Rattle.logs.specs.Relied.{startsIn}
 use Rattle.logs.specs.declared.LogRead.the-variants.{Frames, ShortList, NoSlot}
 
-stray-found : (slots : List ℕ) (i : ℕ) → 3 < getD slots i 0 → strayIn slots ≡ true
+pub stray-found : (slots : List ℕ) (i : ℕ) → 3 < getD slots i 0 → strayIn slots ≡ true
 unfolding strayIn
 stray-found [] i h = absurd (omega arith)
 stray-found (w ∷ ws) zero h = rw (lt-ltb slotIdle w h)
@@ -26,7 +26,7 @@ stray-found (w ∷ ws) (suc i) h = by (ltb slotIdle w) (stray-found ws i h)
     by true later = refl
     by false later = later
 
-none-stray : (slots : List ℕ) → ((i : ℕ) → getD slots i 0 ≤ 3) → strayIn slots ≡ false
+pub none-stray : (slots : List ℕ) → ((i : ℕ) → getD slots i 0 ≤ 3) → strayIn slots ≡ false
 unfolding strayIn
 none-stray [] h = refl
 none-stray (w ∷ ws) h = rw (le-ltb slotIdle w (h 0)) (none-stray ws (λ i. h (suc i)))

@@ -2,7 +2,7 @@
 use mathlib.Core.Bool.{Bool, true, false, _&&_}
 use mathlib.Core.Path.{_≡_, refl, sym, ap, ap₂, _∙_}
 use mathlib.Core.List.{List, _∷_, map}
-use Prim.Native.Nat.{ℕ, zero, suc, _+_, _-_, _%_, _<_, _≤_}
+use Prim.Native.Nat.{ℕ, zero, suc, _+_, _*_, _-_, _/_, _%_, _<_, _≤_}
 use native.Mathlib.Nat.{add-zero}
 use native.Mathlib.Omega.{arith}
 use borrow.Author.Tests.{eq-eqb, eqb-true, ne-eqb}
@@ -13,11 +13,11 @@ use Rattle.line.proofs.Either.{both}
 use Rattle.line.specs.Cases.{same}
 use Rattle.logs.proofs.Again.{same-lists, same-self}
 use Rattle.logs.specs.Data.{Acked}
-use Rattle.logs.specs.Readings.{Reading, bytesIn, equalFrames}
+use Rattle.logs.specs.Readings.{Reading, bitIn, bytesIn, controlIn, equalFrames, lengthOf, masterIn, slaveIn}
+use Rattle.logs.specs.Records.{secondWord}
 use Rattle.reader.proofs.Parts.{cut}
 use Rattle.reader.specs.declared.entry.Entry.{Entry}
-use Rattle.reader.specs.Entries.{Stands, alikeEntries, alikeHeads, bytesFrom}
-use Rattle.reader.specs.Heads.{headIn}
+use Rattle.reader.specs.Entries.{Stands, ackedIn, alikeEntries, alikeFields, bytesFrom, saidOf}
 
 -- ---- alike_bytes
 
@@ -86,62 +86,104 @@ five xs ys few fewer a b c d e (suc (suc (suc (suc zero)))) = e
 five xs ys few fewer a b c d e (suc (suc (suc (suc (suc i))))) =
     List·getD-eq-default xs 0 (omega arith) ∙ sym (List·getD-eq-default ys 0 (omega arith))
 
-heads-told : (xs ys : List ℕ) (e f : ℕ) → length xs ≤ 5 → length ys ≤ 5 → alikeHeads (headIn xs e) (headIn ys f) ≡ true
-    → (length ys ≡ length xs) × ((i : ℕ) → getD ys i 0 ≡ getD xs i 0)
-heads-told xs ys e f few fewer test =
-    let (t4, fifth) = both _ (eqb (getD xs 4 0) (getD ys 4 0)) test in
-    let (t3, fourth) = both _ (eqb (getD xs 3 0) (getD ys 3 0)) t4 in
-    let (t2, third) = both _ (eqb (getD xs 2 0) (getD ys 2 0)) t3 in
-    let (t1, second) = both _ (eqb (getD xs 1 0) (getD ys 1 0)) t2 in
-    let (t0, first) = both (eqb (length xs) (length ys)) (eqb (getD xs 0 0) (getD ys 0 0)) t1 in (
-      sym (eqb-true _ _ t0),
-      five ys xs fewer few (sym (eqb-true _ _ first)) (sym (eqb-true _ _ second)) (sym (eqb-true _ _ third))
-          (sym (eqb-true _ _ fourth)) (sym (eqb-true _ _ fifth)),
-    )
+-- the numbers of a first word, each taken out again
+module _ (b c l a : ℕ) where
+  abbrev word : ℕ
+  word = b * 0x20 + c * 0x40 + l * 0x400 + a * 0x8_0000
 
-heads-self : (xs : List ℕ) (e f : ℕ) → alikeHeads (headIn xs e) (headIn xs f) ≡ true
-heads-self xs e f =
-    simp (
-      eq-eqb (length xs) (length xs) refl,
-      eq-eqb (getD xs 0 0) (getD xs 0 0) refl,
-      eq-eqb (getD xs 1 0) (getD xs 1 0) refl,
-      eq-eqb (getD xs 2 0) (getD xs 2 0) refl,
-      eq-eqb (getD xs 3 0) (getD xs 3 0) refl,
-      eq-eqb (getD xs 4 0) (getD xs 4 0) refl,
-    )
+  bit-out : b < 2 → word / 0x20 % 2 ≡ b
+  bit-out low = omega arith
+
+  control-out : b < 2 → c < 0x10 → word / 0x40 % 0x10 ≡ c
+  control-out low lower = omega arith
+
+  bytes-out : b < 2 → c < 0x10 → l ≤ 0x100 → word / 0x400 % 0x200 ≡ l
+  bytes-out low lower most = omega arith
+
+first-alike : (b c l a b₁ c₁ l₁ a₁ : ℕ) → b < 2 → c < 0x10 → l ≤ 0x100 → b₁ < 2 → c₁ < 0x10 → l₁ ≤ 0x100
+    → word b c l a ≡ word b₁ c₁ l₁ a₁
+    → (b ≡ b₁) × (c ≡ c₁) × (l ≡ l₁)
+first-alike b c l a b₁ c₁ l₁ a₁ hb hc hl hb₁ hc₁ hl₁ e = (
+  sym (bit-out b c l a hb) ∙ ap (λ (w : ℕ). w / 0x20 % 2) e ∙ bit-out b₁ c₁ l₁ a₁ hb₁,
+  sym (control-out b c l a hb hc) ∙ ap (λ (w : ℕ). w / 0x40 % 0x10) e ∙ control-out b₁ c₁ l₁ a₁ hb₁ hc₁,
+  sym (bytes-out b c l a hb hc hl) ∙ ap (λ (w : ℕ). w / 0x400 % 0x200) e ∙ bytes-out b₁ c₁ l₁ a₁ hb₁ hc₁ hl₁,
+)
+
+second-alike : (m s m₁ s₁ : ℕ) → m < 0x1000 → m₁ < 0x1000 → m + s * 0x1000 ≡ m₁ + s₁ * 0x1000
+    → (m ≡ m₁) × (s ≡ s₁)
+second-alike m s m₁ s₁ hm hm₁ e = (omega arith, omega arith)
+
+pub acked-counted : {r : Reading} {a : Entry} {records : List ℕ} → Stands r a records
+    → ackedIn a ≡ length (r .text .acked)
+acked-counted {r} {a} p =
+    let v = p .values in
+    rw (p .said) (omega (arith, v .bit-low, v .control-low, v .bytes-most))
+
+-- entries with alike fields say the same of them
+pub said-alike : (a b : Entry) → alikeFields a b ≡ true → a .said ≡ b .said
+said-alike a b test =
+    let (words, addresses) = both (eqb (a .given) (b .given) && eqb (a .said) (b .said)) _ test in
+    let (many, said) = both (eqb (a .given) (b .given)) (eqb (a .said) (b .said)) words in
+    eqb-true (a .said) (b .said) said
 
 module _ {r s : Reading} {a b : Entry} {records : List ℕ} (p : Stands r a records) (q : Stands s b records) where
+  given-told : length (s .given) ≡ length (r .given) → saidOf r ≡ saidOf s → secondWord r ≡ secondWord s
+      → s .given ≡ r .given
+  given-told many said addresses =
+      let v = p .values in
+      let w = q .values in
+      let (bit, control, bytes) = first-alike (bitIn r) (controlIn r) (lengthOf r) _ (bitIn s) (controlIn s)
+      (lengthOf s) _ (v .bit-low) (v .control-low) (v .bytes-most) (w .bit-low) (w .control-low) (w .bytes-most) said in
+      let (master, slave) = second-alike (masterIn r) (slaveIn r) (masterIn s) (slaveIn s) (v .master-low)
+      (w .master-low) addresses in
+      ext-getD 0 (s .given) (r .given) many
+      (λ i h. sym (five (r .given) (s .given) (p .few) (q .few) bit master slave control bytes i))
+
   to : alikeEntries records a b ≡ true → equalFrames r s ≡ true
   unfolding alikeEntries equalFrames
   to test =
-      let (heads, text) = both (alikeHeads (a .head) (b .head)) _ test in
-      let (counts, bytes) = both (eqb (a .acked) (b .acked)) _ text in
-      let as-many = eqb-true (a .acked) (b .acked) counts in
-      let told = heads-told (r .given) (s .given) (a .head .ending) (b .head .ending) (p .few) (q .few)
-      (rw (p .head, q .head) at heads) in
-      let given = ext-getD 0 (s .given) (r .given) (told .0) (λ i h. told .1 i) in
-      let said : bytesIn s ≡ bytesIn r =
-      sym (q .bytes) ∙ sym (same-lists _ _ bytes) ∙ ap (bytesFrom records (a .bytes)) (sym as-many) ∙ p .bytes in
-      rw (given, said, same-self (r .given)) (same-self (bytesIn r))
+      let (fields, bytes) = both (alikeFields a b) _ test in
+      let (words, addresses) = both (eqb (a .given) (b .given) && eqb (a .said) (b .said)) _ fields in
+      let (many, _) = both (eqb (a .given) (b .given)) (eqb (a .said) (b .said)) words in
+      let said = said-alike a b fields in
+      let given = given-told (sym (q .given) ∙ sym (eqb-true _ _ many) ∙ p .given) (sym (p .said) ∙ said ∙ q .said)
+      (sym (p .addresses) ∙ eqb-true (a .addresses) (b .addresses) addresses ∙ q .addresses) in
+      let text : bytesIn s ≡ bytesIn r =
+      sym (q .bytes) ∙ sym (same-lists _ _ bytes)
+      ∙ ap (λ (n : ℕ). bytesFrom records (a .bytes) (n / 0x8_0000)) (sym said) ∙ p .bytes in
+      rw (given, text, same-self (r .given)) (same-self (bytesIn r))
 
   back : equalFrames r s ≡ true → alikeEntries records a b ≡ true
   unfolding alikeEntries equalFrames
   back equal =
       let (fields, bytes) = both (same (r .given) (s .given)) _ equal in
-      let given = sym (same-lists (r .given) (s .given) fields) in
-      let said = same-lists (bytesIn r) (bytesIn s) bytes in
-      let as-many : a .acked ≡ b .acked =
-      p .count ∙ sym (length-map (r .text .acked) (λ (x : Acked). x .byte)) ∙ ap length said
-      ∙ length-map (s .text .acked) (λ (x : Acked). x .byte) ∙ sym (q .count)
+      let given = same-lists (r .given) (s .given) fields in
+      let text = same-lists (bytesIn r) (bytesIn s) bytes in
+      let as-many : length (r .text .acked) ≡ length (s .text .acked) =
+      sym (length-map (r .text .acked) (λ (x : Acked). x .byte)) ∙ ap length text
+      ∙ length-map (s .text .acked) (λ (x : Acked). x .byte)
       in
-      let heads : alikeHeads (a .head) (b .head) ≡ true =
-      ap₂ alikeHeads (p .head) (q .head ∙ ap (λ (l : List ℕ). headIn l (b .head .ending)) given)
-      ∙ heads-self (r .given) (a .head .ending) (b .head .ending)
+      let many : a .given ≡ b .given = p .given ∙ ap length given ∙ sym (q .given) in
+      let said : a .said ≡ b .said =
+      p .said
+      ∙ ap₂ (λ (l : List ℕ) (n : ℕ). getD l 0 0 * 0x20 + getD l 3 0 * 0x40 + getD l 4 0 * 0x400 + n * 0x8_0000) given
+      as-many ∙ sym (q .said)
       in
-      let bytes : bytesFrom records (a .bytes) (b .acked) ≡ bytesFrom records (b .bytes) (b .acked) =
-      ap (bytesFrom records (a .bytes)) (sym as-many) ∙ p .bytes ∙ said ∙ sym (q .bytes)
+      let addresses : a .addresses ≡ b .addresses =
+      p .addresses ∙ ap (λ (l : List ℕ). getD l 1 0 + getD l 2 0 * 0x1000) given ∙ sym (q .addresses)
       in
-      rw (heads, eq-eqb _ _ as-many, bytes) (same-self (bytesFrom records (b .bytes) (b .acked)))
+      let bytes : bytesFrom records (a .bytes) (ackedIn b) ≡ bytesFrom records (b .bytes) (ackedIn b) =
+      ap (λ (n : ℕ). bytesFrom records (a .bytes) (n / 0x8_0000)) (sym said) ∙ p .bytes ∙ text ∙ sym (q .bytes)
+      in
+      rw (eq-eqb _ _ many, eq-eqb _ _ said, eq-eqb _ _ addresses, bytes)
+      (same-self (bytesFrom records (b .bytes) (ackedIn b)))
 
   pub entries-alike : alikeEntries records a b ≡ equalFrames r s
   entries-alike = together (alikeEntries records a b) (equalFrames r s) to back
+
+-- the entry of no frame is like none
+pub none-alike : {s : Reading} (a : Entry) {b : Entry} {records : List ℕ} → 5 < a .given → Stands s b records
+    → alikeEntries records a b ≡ false
+unfolding alikeEntries
+none-alike {s} a {b} over q =
+    rw (ne-eqb (a .given) (b .given) (λ e. omega (arith, q .given, q .few)))

@@ -21,6 +21,7 @@ use Rattle.reader.proofs.Parts.{cut}
 use Rattle.reader.proofs.Pasting.{paste-behind, paste-end, paste-length}
 use Rattle.reader.proofs.Records.{recordOf}
 use Rattle.reader.specs.declared.entry.Entry.{Entry}
+use Rattle.reader.specs.Entries.{ackedIn}
 use Rattle.reader.specs.Reading.{LevelsEnd, NextStart}
 use Rattle.reader.specs.Records.{RecordPut, StandsBefore}
 use Rattle.reader.specs.Texts.{pasted}
@@ -49,23 +50,23 @@ wordsFrom long before slots at = wordsOf (markedAfter before (map (readOf long) 
 
 pub record SoFar (long : Bool) (slots first records : List ℕ) (frames next : ℕ) (entry : Entry) (at : ℕ) : Type 0 where
   pub before : Before
-  pub stands : StandsBefore before (ltb 0 frames) entry records
+  pub stands : StandsBefore before entry records
   pub filled : Filled (wordsOf (recordsOf long slots)) first records (wordsFrom long before slots at) next
   pub count : length (framesOf slots) ≡ frames + length (framesOf (drop at slots))
   pub there : at < length slots → getD slots at 0 ≡ slotStart
   pub ahead : next ≤ at
   pub few : frames ≤ at
   pub inside : at ≤ length slots
-  pub behind : entry .bytes + entry .acked ≤ next
+  pub behind : entry .bytes + ackedIn entry ≤ next
 
 pub so-far-none : (long : Bool) {slots first : List ℕ} {entry : Entry} {at : ℕ} → NextStart slots 0 at
-    → (entry .acked ≡ 0) × (entry .bytes ≡ 0)
+    → (5 < entry .given) × (ackedIn entry ≡ 0) × (entry .bytes ≡ 0)
     → SoFar long slots first first 0 0 entry at
 unfolding recordsOf
 so-far-none long {slots} {first} {entry} {at} start empty =
     record {
       before = none;
-      stands = le-ltb 0 0 (omega arith);
+      stands = empty .0;
       filled =
           rw (← start .passed) (nothing-filled (wordsOf (markedAfter none (map (readOf long) (framesOf slots)))) first);
       count = omega (arith, ap length (start .passed));
@@ -73,7 +74,7 @@ so-far-none long {slots} {first} {entry} {at} start empty =
       ahead = omega arith;
       few = omega arith;
       inside = start .within .inside;
-      behind = omega (arith, empty .0, empty .1);
+      behind = omega (arith, empty .1, empty .2);
     }
 
 module _ {long : Bool} {slots first records : List ℕ} {frames next : ℕ} {entry : Entry} {at : ℕ}
@@ -108,15 +109,15 @@ module _ {long : Bool} {slots first records : List ℕ} {frames next : ℕ} {ent
   words-there = ap (λ (ls : List (List ℕ)). wordsOf (markedAfter (s .before) (map (readOf long) ls))) frames-there
 
   pub next-ahead : {newer : Entry} {after : List ℕ}
-      → RecordPut long levels next entry (ltb 0 frames) records newer after
-      → newer .bytes + newer .acked ≤ end
+      → RecordPut long levels next entry records newer after
+      → newer .bytes + ackedIn newer ≤ end
   next-ahead put =
       omega (arith, put .ends false, record-fits long levels false, levels-long, s .ahead, e .within .ahead)
 
   pub so-far-one : {newer : Entry} {after : List ℕ}
-      → RecordPut long levels next entry (ltb 0 frames) records newer after
+      → RecordPut long levels next entry records newer after
       → {start : ℕ} → NextStart slots end start
-      → SoFar long slots first after (frames + 1) (newer .bytes + newer .acked) newer start
+      → SoFar long slots first after (frames + 1) (newer .bytes + ackedIn newer) newer start
   so-far-one {newer} {after} put {start} n =
       let mark = againAfter (s .before) (readOf long levels) in
       let words = recordWords (recordOf long levels mark) in
@@ -124,7 +125,7 @@ module _ {long : Bool} {slots first records : List ℕ} {frames next : ℕ} {ent
       let ends = put .ends mark in
       record {
         before = frame (readOf long levels);
-        stands = (lt-ltb 0 (frames + 1) (omega arith), put .stands);
+        stands = put .stands;
         filled =
             rw (
               ends,

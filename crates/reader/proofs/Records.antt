@@ -1,5 +1,5 @@
 -- The record of a frame: what its writing comes to, and that its entry stands for the next frame.
-use mathlib.Core.Bool.{Bool, true, false, _&&_}
+use mathlib.Core.Bool.{Bool, true, false}
 use mathlib.Core.Path.{_≡_, refl, sym, ap, ap₂, _∙_}
 use mathlib.Core.List.{List, [], _∷_, _++_, map}
 use Prim.Native.Nat.{ℕ, suc, _+_, _*_, _%_, _<_, _≤_}
@@ -9,24 +9,23 @@ use lib.Dec.{ltb}
 use lib.ListN.{drop, getD, length, length-append, length-map, set, take}
 use lib.Seq.{take-at}
 use Rattle.line.specs.Choice.{pick}
-use Rattle.logs.proofs.Fields.{at-most-one}
-use Rattle.logs.proofs.Readings.{reading-bounded, record-fits}
+use Rattle.logs.proofs.Readings.{Bounded, reading-bounded, record-fits}
 use Rattle.logs.specs.Data.{Acked, noByte}
 use Rattle.logs.specs.Fields.{Field, givenIn, header, nakAt, valueIn}
 use Rattle.logs.specs.Frames.{Low}
-use Rattle.logs.specs.Readings.{Reading, bytesIn, dataOf, readOf}
+use Rattle.logs.specs.Readings.{Reading, bitIn, bytesIn, controlIn, dataOf, lengthOf, masterIn, readOf, slaveIn}
 use Rattle.logs.specs.Records.{Before, Record, againAfter, byteWord, firstWord, frame, none, recordWords, wordsBehind}
-use Rattle.reader.proofs.Entries.{entries-alike}
+use Rattle.reader.proofs.Entries.{entries-alike, none-alike}
 use Rattle.reader.proofs.Parts.{part}
 use Rattle.reader.proofs.Pasting.{paste-before, paste-behind, paste-front, paste-length, paste-there}
 use Rattle.reader.proofs.Pasting.{paste-word, paste-words}
 use Rattle.reader.specs.declared.entry.Entry.{Entry}
 use Rattle.reader.specs.declared.head.Head.{Head}
 use Rattle.reader.specs.declared.text.Body.{Body}
-use Rattle.reader.specs.Entries.{Stands, alikeEntries, bytesFrom}
-use Rattle.reader.specs.Heads.{headOf}
-use Rattle.reader.specs.Records.{Bits, RecordPut, StandsBefore, frontOf, frontWords, packed}
-use Rattle.reader.specs.Texts.{Wrote, pasted}
+use Rattle.reader.specs.Entries.{Stands, ackedIn, alikeEntries, bytesFrom, saidOf}
+use Rattle.reader.specs.Heads.{Values, headOf}
+use Rattle.reader.specs.Records.{RecordPut, StandsBefore, entryWith, firstWith, frontOf, frontWords}
+use Rattle.reader.specs.Texts.{Wrote, bodyOf, pasted}
 
 -- the record of a frame of these levels, with its mark
 abbrev pub recordOf : Bool → List ℕ → Bool → Record
@@ -36,17 +35,23 @@ recordOf long levels again = record { again = again; reading = readOf long level
 abbrev byteWords : Bool → List ℕ → List ℕ
 byteWords long levels = map byteWord (readOf long levels .text .acked)
 
-front-length : (head : Head) (first : ℕ) → length (frontOf head first) ≡ frontWords head
-front-length head first = by (ltb (head .given) 2)
+-- and the entry of such a frame whose bytes stand at a place
+abbrev entryIn : Bool → List ℕ → ℕ → Entry
+entryIn long levels bytes = entryWith (headOf levels) (bodyOf (readOf long levels .text)) bytes
+
+front-length : (entry : Entry) (first : ℕ) → length (frontOf entry first) ≡ frontWords (entry .given)
+front-length entry first = by (ltb (entry .given) 2)
   where
-    by : (few : Bool) → length (first ∷ pick few [] ((head .master + head .slave * 0x1000) ∷ [])) ≡ pick few 1 2
+    by : (few : Bool) → length (first ∷ pick few [] (entry .addresses ∷ [])) ≡ pick few 1 2
     by true = refl
     by false = refl
 
-pub front-two-most : (head : Head) → frontWords head ≤ 2
-front-two-most head =
-    let second = at-most-one (ltb (head .given) 2) (head .master + head .slave * 0x1000) in
-    omega (arith, front-length head 0)
+pub front-two-most : (given : ℕ) → frontWords given ≤ 2
+front-two-most given = by (ltb given 2)
+  where
+    by : (few : Bool) → pick few 1 2 ≤ 2
+    by true = omega arith
+    by false = omega arith
 
 -- ---- the bytes of the records, beside a piece that is written
 
@@ -88,24 +93,24 @@ given-few (f ∷ fs) levels = by (ltb (length levels) (f .end)) (nakAt levels f)
     by false false few = omega arith
 
 -- the words of a record: those before the bytes, and the bytes
-record-words : (long : Bool) (levels : List ℕ) (again : Bool)
+record-words : (long : Bool) (levels : List ℕ) (again : Bool) (bytes : ℕ)
     → recordWords (recordOf long levels again)
-    ≡ frontOf (headOf levels) (firstWord (recordOf long levels again)) ++ byteWords long levels
+    ≡ frontOf (entryIn long levels bytes) (firstWord (recordOf long levels again)) ++ byteWords long levels
 unfolding recordWords wordsBehind readOf headOf
-record-words long levels again = refl
+record-words long levels again bytes = refl
 
 words-counted : (long : Bool) (levels : List ℕ) (again : Bool)
     → length (recordWords (recordOf long levels again))
-    ≡ frontWords (headOf levels) + length (readOf long levels .text .acked)
+    ≡ frontWords (headOf levels .given) + length (readOf long levels .text .acked)
 words-counted long levels again =
     let first = firstWord (recordOf long levels again) in
-    let all = ap length (record-words long levels again)
-    ∙ length-append (frontOf (headOf levels) first) (byteWords long levels) in
+    let front = frontOf (entryIn long levels 0) first in
+    let all = ap length (record-words long levels again 0) ∙ length-append front (byteWords long levels) in
     let bytes = length-map (readOf long levels .text .acked) byteWord in
-    omega (arith, all, bytes, front-length (headOf levels) first)
+    omega (arith, all, bytes, front-length (entryIn long levels 0) first)
 
 -- the words before the bytes have their slots
-pub front-most : (levels : List ℕ) {head : Head} → head ≡ headOf levels → frontWords head ≤ 1 + length levels
+pub front-most : (levels : List ℕ) {head : Head} → head ≡ headOf levels → frontWords (head .given) ≤ 1 + length levels
 front-most levels {head} is =
     rw is (omega (arith, words-counted false levels false, record-fits false levels false))
 
@@ -115,7 +120,7 @@ pub record Putting (long : Bool) (levels : List ℕ) (at : ℕ) (before : List �
   pub low : Low levels
   pub room : at + 1 + length levels ≤ length before
   pub is-head : head ≡ headOf levels
-  pub is-front : front ≡ frontWords head
+  pub is-front : front ≡ frontWords (head .given)
   pub wrote : Wrote (dataOf long (givenIn header levels) levels) (at + front) before body middle
 
 module _ {long : Bool} {levels : List ℕ} {at : ℕ} {before : List ℕ} {head : Head} {front : ℕ} {body : Body}
@@ -131,17 +136,52 @@ module _ {long : Bool} {levels : List ℕ} {at : ℕ} {before : List ℕ} {head 
   words-long : length (byteWords long levels) ≡ body .acked
   words-long = length-map (readOf long levels .text .acked) byteWord ∙ sym count
 
-  front-long : (first : ℕ) → at + length (frontOf head first) ≡ at + front
-  front-long first = ap (λ (n : ℕ). at + n) (front-length head first ∙ sym (p .is-front))
+  abbrev entry : Entry
+  entry = entryWith head body (at + front)
+
+  entry-is : entry ≡ entryIn long levels (at + front)
+  entry-is = ap₂ (λ (h : Head) (b : Body). entryWith h b (at + front)) (p .is-head) (written .told)
+
+  bounded : Bounded (readOf long levels)
+  bounded = reading-bounded long levels (p .low)
+
+  values : Values (bitIn (readOf long levels)) (masterIn (readOf long levels)) (slaveIn (readOf long levels))
+      (controlIn (readOf long levels)) (lengthOf (readOf long levels))
+  values =
+      record {
+        bit-low = bounded .bit;
+        master-low = bounded .master;
+        slave-low = bounded .slave;
+        control-low = bounded .control;
+        bytes-most = bounded .bytes;
+      }
+
+  said-is : entry .said ≡ saidOf (readOf long levels)
+  unfolding readOf headOf
+  said-is = ap (λ (e : Entry). e .said) entry-is
+
+  pub entry-fits : (head .fields < 0x8_0000) × (body .acked ≤ 32)
+  unfolding readOf headOf
+  entry-fits = (
+    rw (p .is-head) (omega (arith, bounded .bit, bounded .control, bounded .bytes)),
+    omega (arith, count, bounded .acked),
+  )
+
+  acked-is : ackedIn entry ≡ body .acked
+  acked-is = omega (arith, entry-fits .0)
+
+  front-long : (first : ℕ) → at + length (frontOf entry first) ≡ at + front
+  front-long first = ap (λ (n : ℕ). at + n) (front-length entry first ∙ sym (p .is-front))
 
   record-ends : (again : Bool)
-      → at + front + body .acked ≡ at + length (recordWords (recordOf long levels again))
+      → at + front + ackedIn entry ≡ at + length (recordWords (recordOf long levels again))
   record-ends again =
-      let same : front ≡ frontWords (headOf levels) = p .is-front ∙ ap frontWords (p .is-head) in
-      omega (arith, words-counted long levels again, count, same)
+      let same : front ≡ frontWords (headOf levels .given) =
+      p .is-front ∙ ap (λ (h : Head). frontWords (h .given)) (p .is-head) in
+      omega (arith, words-counted long levels again, count, same, acked-is)
 
   record-room : at + front + body .acked ≤ length before
-  record-room = omega (arith, record-ends false, record-fits long levels false, p .room)
+  record-room = omega (arith, record-ends false, record-fits long levels false, p .room, acked-is)
 
   words-room : at + front + length (byteWords long levels) ≤ length before
   words-room = omega (arith, record-room, words-long)
@@ -149,28 +189,15 @@ module _ {long : Bool} {levels : List ℕ} {at : ℕ} {before : List ℕ} {head 
   middle-long : length middle ≡ length before
   middle-long = ap length (written .written) ∙ paste-length before (byteWords long levels) (at + front) words-room
 
-  pub record-bits : Bits head body
-  unfolding readOf headOf
-  record-bits =
-      let bounded = reading-bounded long levels (p .low) in
-      rw (p .is-head, written .told)
-      (record {
-        ending = bounded .ending;
-        bit = bounded .bit;
-        control = bounded .control;
-        bytes = bounded .bytes;
-        acked = bounded .acked;
-        unacked = bounded .unacked;
-      })
+  pub first-fits : (entry .said < 0x200_0000) × (body .unacked ≤ 32) × (body .ending ≤ 10)
+  first-fits = (
+    omega (arith, entry-fits .0, entry-fits .1),
+    rw (written .told) (bounded .unacked),
+    rw (written .told) (bounded .ending),
+  )
 
-  pub front-fits : (at + frontWords head ≤ length middle) × (head .master < 0x1000) × (head .slave < 0x1000)
-  unfolding readOf headOf
-  front-fits =
-      let bounded = reading-bounded long levels (p .low) in (
-        omega (arith, record-room, middle-long, p .is-front),
-        rw (p .is-head) (bounded .master),
-        rw (p .is-head) (bounded .slave),
-      )
+  pub front-fits : at + frontWords (head .given) ≤ length middle
+  front-fits = omega (arith, record-room, middle-long, p .is-front)
 
   bytes-there : bytesFrom middle (at + front) (body .acked) ≡ bytesIn (readOf long levels)
   bytes-there =
@@ -183,106 +210,110 @@ module _ {long : Bool} {levels : List ℕ} {at : ℕ} {before : List ℕ} {head 
       (take-at words (drop (place + length words) before) (body .acked) words-long)
       ∙ bytes-low (readOf long levels .text .acked) (reading-bounded long levels (p .low) .byte)
 
-  abbrev entry : Entry
-  entry = record { head = head; acked = body .acked; bytes = at + front }
-
   pub stands-middle : Stands (readOf long levels) entry middle
   unfolding readOf headOf
   stands-middle =
       record {
-        head = rw (p .is-head);
+        given = ap (λ (e : Entry). e .given) entry-is;
+        said = said-is;
+        addresses = ap (λ (e : Entry). e .addresses) entry-is;
         few = given-few header levels;
-        count = count;
-        bytes = bytes-there;
-        inside = omega (arith, record-room, middle-long);
+        values = values;
+        bytes = rw acked-is bytes-there;
+        inside = omega (arith, record-room, middle-long, acked-is);
       }
 
-  packed-is : (again : Bool) → packed head body again ≡ firstWord (recordOf long levels again)
+  first-is : (again : Bool) → firstWith (entry .said) body again ≡ firstWord (recordOf long levels again)
   unfolding firstWord readOf headOf
-  packed-is again = rw (p .is-head, written .told)
+  first-is again = rw (said-is, written .told) (omega arith)
 
-  module _ {first : ℕ} (again : Bool) {after : List ℕ} (is-first : first ≡ packed head body again)
-      (put : after ≡ pasted middle at (frontOf head first)) where
+  module _ {first : ℕ} (again : Bool) {after : List ℕ} (is-first : first ≡ firstWith (entry .said) body again)
+      (put : after ≡ pasted middle at (frontOf entry first)) where
     record-written : after ≡ pasted before at (recordWords (recordOf long levels again))
     record-written =
         let words = byteWords long levels in
-        let piece = frontOf head first in
+        let piece = frontOf entry first in
         let ends = front-long first in
         put
         ∙ ap (λ (m : List ℕ). pasted m at piece) (written .written ∙ ap (λ (n : ℕ). pasted before n words) (sym ends))
         ∙ paste-front before piece words at (omega (arith, words-room, ends))
-        ∙ ap₂ (λ (h : Head) (n : ℕ). pasted before at (frontOf h n ++ words)) (p .is-head) (is-first ∙ packed-is again)
-        ∙ ap (pasted before at) (sym (record-words long levels again))
+        ∙ ap₂ (λ (e : Entry) (n : ℕ). pasted before at (frontOf e n ++ words)) entry-is (is-first ∙ first-is again)
+        ∙ ap (pasted before at) (sym (record-words long levels again (at + front)))
 
     stands-after : Stands (readOf long levels) entry after
     stands-after =
-        let piece = frontOf head first in
+        let piece = frontOf entry first in
         let ends = front-long first in
-        let inside : at + length piece ≤ length middle = omega (arith, front-fits .0, front-length head first) in
-        let kept : bytesFrom (pasted middle at piece) (at + front) (body .acked)
-        ≡ bytesFrom middle (at + front) (body .acked)
-        = rw (← ends) (kept-behind middle piece at (body .acked) (omega arith)) in
+        let inside : at + length piece ≤ length middle = omega (arith, front-fits, front-length entry first) in
+        let kept : bytesFrom (pasted middle at piece) (at + front) (ackedIn entry)
+        ≡ bytesFrom middle (at + front) (ackedIn entry)
+        = rw (← ends) (kept-behind middle piece at (ackedIn entry) (omega arith)) in
         record {
-          head = stands-middle .head;
+          given = stands-middle .given;
+          said = stands-middle .said;
+          addresses = stands-middle .addresses;
           few = stands-middle .few;
-          count = stands-middle .count;
+          values = stands-middle .values;
           bytes = rw put (kept ∙ stands-middle .bytes);
           inside = rw put (omega (arith, paste-length middle piece at inside, stands-middle .inside));
         }
 
   -- the frame before has its entry in the middle, too
-  stands-kept : {r : Reading} {old : Entry} → old .bytes + old .acked ≤ at → Stands r old before → Stands r old middle
+  stands-kept : {r : Reading} {old : Entry} → old .bytes + ackedIn old ≤ at → Stands r old before → Stands r old middle
   stands-kept {r} {old} ahead s =
       record {
-        head = s .head;
+        given = s .given;
+        said = s .said;
+        addresses = s .addresses;
         few = s .few;
-        count = s .count;
+        values = s .values;
         bytes =
-            ap (λ (l : List ℕ). bytesFrom l (old .bytes) (old .acked)) (written .written)
-            ∙ kept-before before (byteWords long levels) (at + front) (old .bytes) (old .acked) (omega arith) words-room
+            ap (λ (l : List ℕ). bytesFrom l (old .bytes) (ackedIn old)) (written .written)
+            ∙ kept-before before (byteWords long levels) (at + front) (old .bytes) (ackedIn old) (omega arith)
+            words-room
             ∙ s .bytes;
         inside = omega (arith, s .inside, middle-long);
       }
 
-  again-is : (b : Before) (old : Entry) (some test : Bool) → old .bytes + old .acked ≤ at
-      → StandsBefore b some old before
-      → test ≡ alikeEntries middle old entry
-      → (some && test) ≡ againAfter b (readOf long levels)
-  again-is none old some test ahead stood is = rw stood
-  again-is (frame r) old some test ahead stood is =
-      rw (stood .0) (is ∙ entries-alike (stands-kept ahead (stood .1)) stands-middle)
+  again-is : (b : Before) (old : Entry) → old .bytes + ackedIn old ≤ at → StandsBefore b old before
+      → alikeEntries middle old entry ≡ againAfter b (readOf long levels)
+  again-is none old ahead stood = none-alike old stood stands-middle
+  again-is (frame r) old ahead stood = entries-alike (stands-kept ahead stood) stands-middle
 
-  pub record-put : (old : Entry) (some test : Bool) → old .bytes + old .acked ≤ at
-      → test ≡ alikeEntries middle old entry
-      → {first : ℕ} {after : List ℕ} → first ≡ packed head body (some && test)
-      → after ≡ pasted middle at (frontOf head first)
-      → RecordPut long levels at old some before entry after
-  record-put old some test ahead is {first} {after} is-first put =
-      record {
+  pub record-put : {kept : Entry} → kept ≡ entry → (old : Entry) (again : Bool) → old .bytes + ackedIn old ≤ at
+      → again ≡ alikeEntries middle old kept
+      → {first : ℕ} {after : List ℕ} → first ≡ firstWith (kept .said) body again
+      → after ≡ pasted middle at (frontOf kept first)
+      → RecordPut long levels at old before kept after
+  record-put {kept} is-entry old again ahead is {first} {after} is-first put =
+      let marked = rw is-entry at is-first in
+      let front = rw is-entry at put in
+      rw is-entry
+      (record {
         written = λ b stood.
-            record-written (some && test) is-first put
-            ∙ ap (λ (again : Bool). pasted before at (recordWords (recordOf long levels again)))
-            (again-is b old some test ahead stood is);
-        stands = stands-after (some && test) is-first put;
+            record-written again marked front
+            ∙ ap (λ (mark : Bool). pasted before at (recordWords (recordOf long levels mark)))
+            (is ∙ ap (alikeEntries middle old) is-entry ∙ again-is b old ahead stood);
+        stands = stands-after again marked front;
         ends = record-ends;
-      }
+      })
 
 -- ---- put_front
 
-module _ (head : Head) (first : ℕ) (records : List ℕ) (at : ℕ) (room : at + frontWords head ≤ length records) where
+module _ (entry : Entry) (first : ℕ) (records : List ℕ) (at : ℕ)
+    (room : at + frontWords (entry .given) ≤ length records) where
   pub front-some : at < length records
-  front-some = omega (arith, room, front-length head first)
+  front-some = omega (arith, room, front-length entry first)
 
-  pub front-one : head .given < 2 → set records at first ≡ pasted records at (frontOf head first)
-  front-one few = rw (lt-ltb (head .given) 2 few) (paste-word records at first front-some)
+  pub front-one : entry .given < 2 → set records at first ≡ pasted records at (frontOf entry first)
+  front-one few = rw (lt-ltb (entry .given) 2 few) (paste-word records at first front-some)
 
-  module _ (enough : 2 ≤ head .given) where
-    some : ltb (head .given) 2 ≡ false
-    some = le-ltb (head .given) 2 enough
+  module _ (enough : 2 ≤ entry .given) where
+    some : ltb (entry .given) 2 ≡ false
+    some = le-ltb (entry .given) 2 enough
 
     pub front-more : at + 1 < length records
     front-more = let fits : at + 2 ≤ length records = rw some at room in omega arith
 
-    pub front-two : set (set records at first) (at + 1) (head .master + head .slave * 0x1000)
-        ≡ pasted records at (frontOf head first)
-    front-two = rw some (paste-words records at first (head .master + head .slave * 0x1000) front-more)
+    pub front-two : set (set records at first) (at + 1) (entry .addresses) ≡ pasted records at (frontOf entry first)
+    front-two = rw some (paste-words records at first (entry .addresses) front-more)

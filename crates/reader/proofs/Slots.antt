@@ -1,47 +1,67 @@
 -- What each loop over the slots of a log keeps from turn to turn.
-use mathlib.Core.Bool.{Bool, true, false, _&&_, _||_, or-assoc, or-false}
+use mathlib.Core.Bool.{true, false, true≢false}
+use mathlib.Core.Logic.{_⊎_, inl, inr, ⊎-elim}
 use mathlib.Core.Path.{_≡_, refl, sym, ap, _∙_}
 use mathlib.Core.List.{List, [], _∷_, _++_, append-assoc, append-nil}
 use Prim.Native.Nat.{ℕ, zero, suc, _+_, _*_, _-_, _^_, _<_, _≤_}
-use native.Mathlib.Nat.{add-zero, pow-suc}
+use native.Mathlib.Nat.{add-zero, pow-suc, zero-add}
 use native.Mathlib.Numerals.{add-one}
 use native.Mathlib.Omega.{arith}
 use borrow.Author.Count.{below-more}
-use borrow.Author.Tests.{le-ltb, leb-true, lt-ltb, ne-eqb}
-use lib.Dec.{leb, ltb}
-use lib.ListN.{drop, drop-of-length-le, getD, length, length-drop, take}
-use lib.Pow.{pow-mono}
+use borrow.Author.Tests.{le-ltb, lt-ltb, ne-eqb}
+use lib.Bits.{and-le-l, and-le-r, bitOr, or-add-and, or-lt}
+use lib.Dec.{ltb}
+use lib.ListN.{List·getD-eq-default, drop, drop-of-length-le, getD, length, length-drop, take}
+use lib.Pow.{pow-mono, pow-pos}
 use lib.Seq.{getD-drop, slice, slice-empty, take-suc}
-use Rattle.line.proofs.Either.{both}
+use Rattle.line.proofs.Either.{below-or-not, either}
 use Rattle.line.specs.Numbers.{slotIdle, slotStart}
+use Rattle.logs.proofs.Frames.{none-stray, stray-found}
 use Rattle.logs.specs.Fields.{numberFrom}
 use Rattle.logs.specs.Frames.{Low, framesOf, levelsFrom, strayIn}
 use Rattle.reader.proofs.Parts.{cut, part, slice-more}
-use Rattle.reader.specs.Reading.{LevelsAhead, LevelsEnd, NextStart, Within}
+use Rattle.reader.specs.Reading.{LevelsAhead, LevelsEnd, NextStart, Overlaid, Within}
+
+-- ---- overlaid
+
+pub overlaid-none : (slots : List ℕ) (from : ℕ) → Overlaid slots from 0 0
+overlaid-none slots from = record { most = λ k none. omega arith; fits = λ width low. pow-pos width }
+
+pub overlaid-one : {slots : List ℕ} {from digits i : ℕ} → Overlaid slots from i digits
+    → Overlaid slots from (i + 1) (bitOr digits (getD slots (from + i) 0))
+overlaid-one {slots} {from} {digits} {i} o =
+    let word = getD slots (from + i) 0 in
+    let sum = or-add-and digits word in
+    record {
+      most = below-more (λ (k : ℕ). getD slots (from + k) 0 ≤ bitOr digits word) i
+          (λ k before. omega (arith, sum, and-le-r digits word, o .most k before))
+          (omega (arith, sum, and-le-l digits word));
+      fits = λ width low. or-lt width digits word (o .fits width (λ k before. low k (omega arith)))
+          (low i (omega arith));
+    }
 
 -- ---- strays
 
-pub record Looked (slots : List ℕ) (some : Bool) (i : ℕ) : Type 0 where
-  pub so-far : strayIn slots ≡ (some || strayIn (drop i slots))
-  pub inside : i ≤ length slots
-
-pub looked-none : (slots : List ℕ) → Looked slots false 0
-looked-none slots = record { so-far = refl; inside = omega arith }
-
-pub looked-one : {slots : List ℕ} {some : Bool} {i : ℕ} → Looked slots some i → i < length slots
-    → Looked slots (some || ltb slotIdle (getD slots i 0)) (i + 1)
-unfolding strayIn
-looked-one {slots} {some} {i} l more =
-    record {
-      so-far = l .so-far ∙ ap (λ (ws : List ℕ). some || strayIn ws) (cut slots i more)
-          ∙ sym (or-assoc some (ltb slotIdle (getD slots i 0)) (strayIn (drop (i + 1) slots)));
-      inside = omega arith;
-    }
-
-pub looked-all : {slots : List ℕ} {some : Bool} {i : ℕ} → Looked slots some i → length slots ≤ i → some ≡ strayIn slots
-unfolding strayIn
-looked-all {slots} {some} {i} l over =
-    sym (l .so-far ∙ ap (λ (ws : List ℕ). some || strayIn ws) (drop-of-length-le slots {i = i} over) ∙ or-false some)
+pub stray-seen : {slots : List ℕ} {digits : ℕ} → Overlaid slots 0 (length slots) digits
+    → ltb slotIdle digits ≡ strayIn slots
+stray-seen {slots} {digits} o =
+    ⊎-elim
+    (λ (low : digits < 4). le-ltb slotIdle digits (omega arith)
+    ∙ sym (none-stray slots (λ k.
+    ⊎-elim (λ (inside : k < length slots). let most = rw (zero-add k) at (o .most k inside) in omega arith)
+    (λ (over : length slots ≤ k). rw (List·getD-eq-default slots 0 over) (omega arith))
+    (below-or-not k (length slots)))))
+    (λ (high : 4 ≤ digits). lt-ltb slotIdle digits (omega arith) ∙ sym (seen high (either (strayIn slots))))
+    (below-or-not digits 4)
+  where
+    seen : 4 ≤ digits → (strayIn slots ≡ true) ⊎ (strayIn slots ≡ false) → strayIn slots ≡ true
+    seen high (inl stray) = stray
+    seen high (inr none) =
+        let low : (k : ℕ) → k < length slots → getD slots (0 + k) 0 < 2 ^ 2 =
+        λ k inside. ⊎-elim (λ low. rw (zero-add k) low)
+        (λ stray. absurd (true≢false (sym (stray-found slots k (omega arith)) ∙ none)))
+        (below-or-not (getD slots k 0) 4) in
+        let over : ⊥ = omega (arith, o .fits 2 low) in absurd over
 
 -- ---- next_start
 
@@ -109,33 +129,10 @@ followed-ahead (suc count) {slots} {from} {i} f a =
     (followed-ahead count f (record { there = omega arith; low = λ k below. a .low k (omega arith) }))
     (omega arith) (a .low count (omega arith)))
 
--- the tests of eight slots, each with its neighbours
-pub eight-ahead : {slots : List ℕ} {i : ℕ} → i + 8 ≤ length slots
-    → (leb (getD slots i 0) 1 && leb (getD slots (i + 1) 0) 1 && leb (getD slots (i + 2) 0) 1
-    && leb (getD slots (i + 3) 0) 1
-    && leb (getD slots (i + 4) 0) 1
-    && leb (getD slots (i + 5) 0) 1
-    && leb (getD slots (i + 6) 0) 1
-    && leb (getD slots (i + 7) 0) 1)
-    ≡ true
-    → LevelsAhead 8 slots i
-eight-ahead {slots} {i} there tests =
-    let (t6, s7) = both _ (leb (getD slots (i + 7) 0) 1) tests in
-    let (t5, s6) = both _ (leb (getD slots (i + 6) 0) 1) t6 in
-    let (t4, s5) = both _ (leb (getD slots (i + 5) 0) 1) t5 in
-    let (t3, s4) = both _ (leb (getD slots (i + 4) 0) 1) t4 in
-    let (t2, s3) = both _ (leb (getD slots (i + 3) 0) 1) t3 in
-    let (t1, s2) = both _ (leb (getD slots (i + 2) 0) 1) t2 in
-    let (s0, s1) = both (leb (getD slots i 0) 1) (leb (getD slots (i + 1) 0) 1) t1 in
-    let next : (k : ℕ) → ((l : ℕ) → l < k → getD slots (i + l) 0 < slotStart) → leb (getD slots (i + k) 0) 1 ≡ true
-    → (l : ℕ) → l < k + 1 → getD slots (i + l) 0 < slotStart
-    = λ k before test. below-more (λ (l : ℕ). getD slots (i + l) 0 < slotStart) k before
-    (omega (arith, leb-true (getD slots (i + k) 0) 1 test)) in
-    record {
-      there = there;
-      low = next 7 (next 6 (next 5 (next 4 (next 3 (next 2 (next 1 (next 0 (λ l none. omega arith)
-          (rw (add-zero i) s0)) s1) s2) s3) s4) s5) s6) s7;
-    }
+-- words whose digits are those of a level are levels
+pub levels-ahead : {slots : List ℕ} {i count digits : ℕ} → i + count ≤ length slots → Overlaid slots i count digits
+    → digits < slotStart → LevelsAhead count slots i
+levels-ahead there o low = record { there = there; low = λ k below. omega (arith, o .most k below) }
 
 ended : {slots : List ℕ} {from i : ℕ} → Followed slots from i → levelsFrom (drop i slots) ≡ [] → LevelsEnd slots from i
 ended {slots} {from} {i} f none =

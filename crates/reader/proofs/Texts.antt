@@ -3,17 +3,19 @@ use mathlib.Core.Bool.{Bool, true, false, _&&_, true≢false}
 use mathlib.Core.Logic.{⊎-elim}
 use mathlib.Core.Path.{_≡_, refl, sym, ap, ap₂, _∙_}
 use mathlib.Core.List.{List, [], _∷_, _++_, append-nil, map, map-append}
-use Prim.Native.Nat.{ℕ, zero, suc, _+_, _*_, _-_, _<_, _≤_}
+use Prim.Native.Nat.{ℕ, zero, suc, _+_, _*_, _-_, _/_, _%_, _<_, _≤_}
 use native.Mathlib.Omega.{arith}
 use borrow.Author.Tests.{eq-eqb, le-leb, le-ltb, leb-true, lt-ltb, ltb-true, ne-eqb}
 use lib.Dec.{eqb, leb, ltb}
-use lib.ListN.{drop, length, length-append, length-drop, length-map, length-set, set}
+use lib.ListN.{drop, getD, length, length-append, length-drop, length-map, length-set, set}
 use lib.Seq.{append-snoc, drop-drop, paste-zero}
 use Rattle.line.proofs.Either.{below-or-not, both, same-or-not}
 use Rattle.line.specs.Numbers.{endBrokenData}
+use Rattle.logs.proofs.Readings.{Bounded, reading-bounded}
 use Rattle.logs.specs.Data.{Acked, Text, attemptsOf, behind, byteIn, counts, textFrom, textOf}
 use Rattle.logs.specs.Fields.{dataPlace, givenIn, header}
-use Rattle.logs.specs.Readings.{dataOf}
+use Rattle.logs.specs.Frames.{Low}
+use Rattle.logs.specs.Readings.{dataOf, readOf}
 use Rattle.logs.specs.Records.{byteWord}
 use Rattle.reader.proofs.Pasting.{paste-one}
 use Rattle.reader.specs.declared.head.Head.{Head}
@@ -210,13 +212,24 @@ going-all {levels} {bit} {bytes} {most} {at} {before} {records} {from} {left} {m
 
 -- ---- put_data
 
-module _ (long : Bool) (levels : List ℕ) {head : Head} (is-head : head ≡ headOf levels) where
+module _ (long : Bool) (levels : List ℕ) (low : Low levels) {head : Head} (is-head : head ≡ headOf levels) where
+  bounded : Bounded (readOf false levels)
+  bounded = reading-bounded false levels low
+
+  bit-read : head .fields / 0x20 % 2 ≡ getD (givenIn header levels) 0 0
+  unfolding headOf readOf
+  bit-read = rw is-head (omega (arith, bounded .bit))
+
+  bytes-read : head .fields / 0x400 ≡ getD (givenIn header levels) 4 0
+  unfolding headOf readOf
+  bytes-read = rw is-head (omega (arith, bounded .bit, bounded .control))
+
   pub data-text : {most : ℕ} → (eqb (head .ending) endBrokenData && ltb dataPlace (length levels)) ≡ true
-      → most ≡ attemptsOf long (eqb (head .bit) 0) (head .length)
-      → textFrom most (eqb (head .bit) 0) (head .length) 0 (drop dataPlace levels)
+      → most ≡ attemptsOf long (eqb (head .fields / 0x20 % 2) 0) (head .fields / 0x400)
+      → textFrom most (eqb (head .fields / 0x20 % 2) 0) (head .fields / 0x400) 0 (drop dataPlace levels)
       ≡ dataOf long (givenIn header levels) levels
   unfolding dataOf headOf
-  data-text {most} test is = rw (is, is-head) (simp (rw is-head at test))
+  data-text {most} test is = rw (is, bit-read, bytes-read) (simp (rw is-head at test))
 
   pub data-none : (eqb (head .ending) endBrokenData && ltb dataPlace (length levels)) ≡ false
       → textOf [] 0 (head .ending) ≡ dataOf long (givenIn header levels) levels

@@ -1,22 +1,24 @@
--- What the reader keeps of a frame whose record it has written.
+-- What the reader keeps of a frame whose bytes it has written.
 use mathlib.Core.Bool.{Bool, _&&_}
 use mathlib.Core.Path.{_≡_}
 use mathlib.Core.List.{List, map}
-use Prim.Native.Nat.{ℕ, _+_, _%_, _≤_}
+use Prim.Native.Nat.{ℕ, _+_, _*_, _/_, _%_, _≤_}
 use lib.Dec.{eqb}
 use lib.ListN.{drop, length, take}
 use Rattle.line.specs.Cases.{same}
-use Rattle.logs.specs.Readings.{Reading, bytesIn}
+use Rattle.logs.specs.Readings.{Reading, bitIn, bytesIn, controlIn, lengthOf, masterIn, slaveIn}
+use Rattle.logs.specs.Records.{secondWord}
 use Rattle.reader.specs.declared.entry.Entry.{Entry}
-use Rattle.reader.specs.declared.head.Head.{Head}
-use Rattle.reader.specs.Heads.{headIn}
+use Rattle.reader.specs.Heads.{Values}
 
--- whether two headers give the same fields with equal values
-abbrev pub alikeHeads : Head → Head → Bool
-alikeHeads a b =
-    eqb (a .given) (b .given) && eqb (a .bit) (b .bit) && eqb (a .master) (b .master) && eqb (a .slave) (b .slave)
-    && eqb (a .control) (b .control)
-    && eqb (a .length) (b .length)
+-- how many bytes were ACKed
+abbrev pub ackedIn : Entry → ℕ
+ackedIn entry = entry .said / 0x8_0000
+
+-- whether two entries have the same fields given, with equal values, and as many bytes
+abbrev pub alikeFields : Entry → Entry → Bool
+alikeFields a b =
+    eqb (a .given) (b .given) && eqb (a .said) (b .said) && eqb (a .addresses) (b .addresses)
 
 -- so many bytes from a place of the records on, without their attempts
 abbrev pub bytesFrom : List ℕ → ℕ → ℕ → List ℕ
@@ -25,14 +27,18 @@ bytesFrom records place count = map (λ (word : ℕ). word % 0x100) (take count 
 -- whether two entries say the same
 unfoldable pub alikeEntries : List ℕ → Entry → Entry → Bool
 alikeEntries records a b =
-    alikeHeads (a .head) (b .head)
-    && (eqb (a .acked) (b .acked)
-    && same (bytesFrom records (a .bytes) (b .acked)) (bytesFrom records (b .bytes) (b .acked)))
+    alikeFields a b && same (bytesFrom records (a .bytes) (ackedIn b)) (bytesFrom records (b .bytes) (ackedIn b))
+
+-- what a first word says of a frame's fields and of the number of its bytes
+abbrev pub saidOf : Reading → ℕ
+saidOf r = bitIn r * 0x20 + controlIn r * 0x40 + lengthOf r * 0x400 + length (r .text .acked) * 0x8_0000
 
 -- an entry is that of a frame whose bytes stand in the records
 pub record Stands (r : Reading) (entry : Entry) (records : List ℕ) : Type 0 where
-  pub head : entry .head ≡ headIn (r .given) (entry .head .ending)
+  pub given : entry .given ≡ length (r .given)
+  pub said : entry .said ≡ saidOf r
+  pub addresses : entry .addresses ≡ secondWord r
   pub few : length (r .given) ≤ 5
-  pub count : entry .acked ≡ length (r .text .acked)
-  pub bytes : bytesFrom records (entry .bytes) (entry .acked) ≡ bytesIn r
-  pub inside : entry .bytes + entry .acked ≤ length records
+  pub values : Values (bitIn r) (masterIn r) (slaveIn r) (controlIn r) (lengthOf r)
+  pub bytes : bytesFrom records (entry .bytes) (ackedIn entry) ≡ bytesIn r
+  pub inside : entry .bytes + ackedIn entry ≤ length records

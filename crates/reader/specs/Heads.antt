@@ -2,21 +2,26 @@
 use mathlib.Core.Bool.{false, _&&_}
 use mathlib.Core.Path.{_≡_}
 use mathlib.Core.List.{List}
-use Prim.Native.Nat.{ℕ}
+use Prim.Native.Nat.{ℕ, _+_, _*_, _<_, _≤_}
 use lib.Dec.{eqb}
 use lib.ListN.{getD, length}
 use Rattle.logs.specs.Fields.{endIn, givenIn, header, numberAt}
 use Rattle.reader.specs.declared.head.Head.{Head}
 
+-- values of the five fields for which a record's words have bits
+pub record Values (bit master slave control bytes : ℕ) : Type 0 where
+  pub bit-low : bit < 2
+  pub master-low : master < 0x1000
+  pub slave-low : slave < 0x1000
+  pub control-low : control < 0x10
+  pub bytes-most : bytes ≤ 0x100
+
 abbrev pub headWith : ℕ → ℕ → ℕ → ℕ → ℕ → ℕ → ℕ → Head
-headWith given bit master slave control length ending =
+headWith given bit master slave control bytes ending =
     record {
       given = given;
-      bit = bit;
-      master = master;
-      slave = slave;
-      control = control;
-      length = length;
+      fields = bit * 0x20 + control * 0x40 + bytes * 0x400;
+      addresses = master + slave * 0x1000;
       ending = ending;
     }
 
@@ -33,4 +38,5 @@ pub record Addressed (levels : List ℕ) (bit master slave : ℕ) : Type 0 where
   pub is-bit : bit ≡ getD levels 0 0
   pub is-master : master ≡ numberAt levels 1 12
   pub is-slave : slave ≡ numberAt levels 14 12
+  pub low : Values bit master slave 0 0
   pub no-nak : (eqb bit 1 && eqb (getD levels 27 0) 1) ≡ false

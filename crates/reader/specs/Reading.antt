@@ -1,7 +1,7 @@
 -- What private functions of the reader promise each other, in terms of crate `logs`.
 use mathlib.Core.Path.{_≡_}
 use mathlib.Core.List.{List}
-use Prim.Native.Nat.{ℕ, _+_, _-_, _<_, _≤_}
+use Prim.Native.Nat.{ℕ, _+_, _-_, _^_, _<_, _≤_}
 use lib.ListN.{drop, getD, length, take}
 use Rattle.line.specs.Numbers.{slotStart}
 use Rattle.logs.specs.Frames.{framesOf, levelsFrom}
@@ -10,6 +10,11 @@ use Rattle.logs.specs.Frames.{framesOf, levelsFrom}
 pub record Within (slots : List ℕ) (from place : ℕ) : Type 0 where
   pub ahead : from ≤ place
   pub inside : place ≤ length slots
+
+-- so many words from a place on, laid over each other: no word is greater, and it has no digit that none of them has
+pub record Overlaid (slots : List ℕ) (from count digits : ℕ) : Type 0 where
+  pub most : (k : ℕ) → k < count → getD slots (from + k) 0 ≤ digits
+  pub fits : (width : ℕ) → ((k : ℕ) → k < count → getD slots (from + k) 0 < 2 ^ width) → digits < 2 ^ width
 
 -- the first start from a place on, or the list's end
 pub record NextStart (slots : List ℕ) (from place : ℕ) : Type 0 where

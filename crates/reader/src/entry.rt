@@ -3,26 +3,29 @@ ghost use mathlib.Core.Path.{_≡_};
 ghost use Prim.Native.Nat.{_+_, _≤_};
 ghost use lib.ListN.{length};
 ghost use Rattle.line.specs.Cases.{same};
-ghost use Rattle.reader.specs.Entries.{alikeHeads, alikeEntries, bytesFrom};
-use crate::head::Head;
+ghost use Rattle.reader.specs.Entries.{ackedIn, alikeEntries, alikeFields, bytesFrom};
 
-// A frame whose record has been written: its header, how many bytes were ACKed, and where they stand in the records.
+// A frame whose bytes have been written: how many fields are given, what its record's first word says of them and of
+// the number of ACKed bytes, its second word, 0 where there is none, and where its bytes stand in the records.
 pub struct Entry {
-    pub head: Head,
-    pub acked: usize,
+    pub given: u32,
+    pub said: u32,
+    pub addresses: u32,
     pub bytes: usize,
 }
 
-// Whether the same fields are given, and they are equal.
-fn alike_heads(a: Head, b: Head) -> bool
-    ensures { λ r. ⌜ r ≡ alikeHeads a b ⌝ }
+// How many bytes were ACKed.
+pub(crate) fn acked(entry: Entry) -> usize
+    ensures { λ r. ⌜ r ≡ ackedIn entry ⌝ }
 {
-    (a.given == b.given)
-        & (a.bit == b.bit)
-        & (a.master == b.master)
-        & (a.slave == b.slave)
-        & (a.control == b.control)
-        & (a.length == b.length)
+    (entry.said / 0x8_0000) as usize
+}
+
+// Whether the same fields are given, they are equal, and as many bytes were ACKed.
+fn alike_fields(a: Entry, b: Entry) -> bool
+    ensures { λ r. ⌜ r ≡ alikeFields a b ⌝ }
+{
+    (a.given == b.given) & (a.said == b.said) & (a.addresses == b.addresses)
 }
 
 // Whether as many bytes from two places of the records on are equal, whatever their attempts.
@@ -44,18 +47,14 @@ fn alike_bytes(records: &[u32], a: usize, b: usize, count: usize) -> bool
 // Whether a frame says what the one before said.
 pub(crate) fn alike(records: &[u32], before: Entry, entry: Entry) -> bool
     requires { ⌜
-        (before .bytes + before .acked ≤ length (now records))
-        × (entry .bytes + entry .acked ≤ length (now records)) ⌝ }
+        (before .bytes + ackedIn before ≤ length (now records))
+        × (entry .bytes + ackedIn entry ≤ length (now records)) ⌝ }
     ensures { λ r. ⌜ r ≡ alikeEntries (now (records .entry)) before entry ⌝ }
 {
-    let count = entry.acked;
     let from = entry.bytes;
     let was = before.bytes;
-    if !alike_heads(before.head, entry.head) {
+    if !alike_fields(before, entry) {
         return false;
     }
-    if before.acked != count {
-        return false;
-    }
-    alike_bytes(records, was, from, count)
+    alike_bytes(records, was, from, acked(entry))
 }

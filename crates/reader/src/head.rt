@@ -1,10 +1,10 @@
 // The header of a frame: the fields that are given, and how the frame ended where it did not come to its data.
 ghost use mathlib.Core.Path.{_≡_};
-ghost use Prim.Native.Nat.{_≤_};
+ghost use Prim.Native.Nat.{_<_, _≤_};
 ghost use lib.ListN.{length};
 ghost use Rattle.logs.specs.Frames.{Low};
 ghost use Rattle.logs.specs.Fields.{lengthIn};
-ghost use Rattle.reader.specs.Heads.{Addressed, headOf, headWith};
+ghost use Rattle.reader.specs.Heads.{Addressed, Values, headOf, headWith};
 use crate::levels::number;
 use line::numbers::END_BROKEN_BIT;
 use line::numbers::END_BROKEN_CONTROL;
@@ -17,20 +17,19 @@ use line::numbers::END_NAK_LENGTH;
 use line::numbers::END_NAK_SLAVE;
 use line::numbers::LENGTH_OF_ZERO;
 
-// How many of the five fields are given, the value of each, 0 where it is not given, and how the frame ended, as far as
-// its header tells.
+// How many of the five fields are given, then their values as a record's words hold them, with 0 where one is not given:
+// broadcast bit, control and length as in its first word, master and slave as in its second; and how the frame ended,
+// as far as its header tells. In few words a header is cheap to compare with the one before.
 pub struct Head {
     pub given: u32,
-    pub bit: u32,
-    pub master: u32,
-    pub slave: u32,
-    pub control: u32,
-    pub length: u32,
+    pub fields: u32,
+    pub addresses: u32,
     pub ending: u32,
 }
 
 fn length_in(byte: u32) -> u32
-    ensures { λ r. ⌜ r ≡ lengthIn byte ⌝ }
+    requires { ⌜ byte < 0x100 ⌝ }
+    ensures { λ r. ⌜ (r ≡ lengthIn byte) × (r ≤ 0x100) ⌝ }
 {
     if byte == 0 {
         return LENGTH_OF_ZERO as u32;
@@ -48,15 +47,13 @@ fn header(
     length: u32,
     ending: u32,
 ) -> Head
+    requires { ⌜ Values bit master slave control length ⌝ }
     ensures { λ r. ⌜ r ≡ headWith given bit master slave control length ending ⌝ }
 {
     Head {
         given,
-        bit,
-        master,
-        slave,
-        control,
-        length,
+        fields: bit * 0x20 + control * 0x40 + length * 0x400,
+        addresses: master + slave * 0x1000,
         ending,
     }
 }

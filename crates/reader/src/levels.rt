@@ -6,23 +6,31 @@ ghost use Prim.Native.Nat.{_+_, _^_, _<_, _≤_};
 ghost use lib.ListN.{length};
 ghost use Rattle.logs.specs.Frames.{Low, strayIn};
 ghost use Rattle.logs.specs.Fields.{numberAt};
-ghost use Rattle.reader.specs.Reading.{LevelsAhead, LevelsEnd, NextStart};
+ghost use Rattle.reader.specs.Reading.{LevelsAhead, LevelsEnd, NextStart, Overlaid};
 use line::numbers::SLOT_HIGH;
 use line::numbers::SLOT_IDLE;
 use line::numbers::SLOT_START;
 
-// Whether some word is no slot word. Every word is looked at, wherever the first one stands: that is cheaper than a
-// test after each.
+// So many words from a place on, laid over each other: the result has each binary digit that one of them has, so it is
+// below a power of two exactly if all of them are. To look at every word and to test once is cheaper than a test of each.
+fn overlaid(slots: &[u32], from: usize, count: usize) -> u32
+    requires { ⌜ from + count ≤ length (now slots) ⌝ }
+    ensures { λ r. ⌜ Overlaid (now (slots .entry)) from count r ⌝ }
+{
+    let mut digits: u32 = 0;
+    let mut i: usize = 0;
+    while i < count {
+        digits = digits | slots[from + i];
+        i += 1;
+    }
+    digits
+}
+
+// Whether some word is no slot word.
 pub(crate) fn strays(slots: &[u32]) -> bool
     ensures { λ r. ⌜ r ≡ strayIn (now (slots .entry)) ⌝ }
 {
-    let mut some = false;
-    let mut i: usize = 0;
-    while i < slots.len() {
-        some = some | (SLOT_IDLE < slots[i]);
-        i += 1;
-    }
-    some
+    SLOT_IDLE < overlaid(slots, 0, slots.len())
 }
 
 // The place of the first start from a place on, the list's end where there is none.
@@ -48,14 +56,7 @@ fn eight_levels(slots: &[u32], i: usize) -> bool
     if slots.len() - i < 8 {
         return false;
     }
-    (slots[i] <= SLOT_HIGH)
-        & (slots[i + 1] <= SLOT_HIGH)
-        & (slots[i + 2] <= SLOT_HIGH)
-        & (slots[i + 3] <= SLOT_HIGH)
-        & (slots[i + 4] <= SLOT_HIGH)
-        & (slots[i + 5] <= SLOT_HIGH)
-        & (slots[i + 6] <= SLOT_HIGH)
-        & (slots[i + 7] <= SLOT_HIGH)
+    overlaid(slots, i, 8) <= SLOT_HIGH
 }
 
 // The place, from one on, of the first slot that is no level, the list's end where there is none. Eight slots in one

@@ -9,35 +9,29 @@ mod text;
 
 ghost use mathlib.Core.Path.{_≡_};
 ghost use mathlib.Core.List.{_++_};
-ghost use Prim.Native.Nat.{_≤_};
+ghost use Prim.Native.Nat.{_<_, _≤_};
 ghost use lib.ListN.{drop, length};
 ghost use Rattle.logs.specs.Frames.{framesOf};
 ghost use Rattle.logs.specs.Log.{ReadLog};
 ghost use Rattle.logs.specs.Relied.{Relied};
 ghost use Rattle.logs.specs.Records.{recordsOf, wordsOf};
+ghost use Rattle.reader.specs.Entries.{ackedIn};
 use crate::entry::Entry;
-use crate::head::Head;
+use crate::entry::acked;
 use crate::levels::levels_end;
 use crate::levels::next_start;
 use crate::levels::strays;
 use crate::record::put_record;
 use logs::LogRead;
 
-// What stands for the frame before where there is none.
+// What stands for the frame before where there is none: no header gives so many fields, so no frame says it again.
 fn no_entry() -> Entry
-    ensures { λ r. ⌜ (r .acked ≡ 0) × (r .bytes ≡ 0) ⌝ }
+    ensures { λ r. ⌜ (5 < r .given) × (ackedIn r ≡ 0) × (r .bytes ≡ 0) ⌝ }
 {
     Entry {
-        head: Head {
-            given: 0,
-            bit: 0,
-            master: 0,
-            slave: 0,
-            control: 0,
-            length: 0,
-            ending: 0,
-        },
-        acked: 0,
+        given: 6,
+        said: 0,
+        addresses: 0,
         bytes: 0,
     }
 }
@@ -56,8 +50,8 @@ fn put_records(long: bool, slots: &[u32], records: &mut [u32]) -> usize
     let mut at = next_start(slots, 0);
     while at < slots.len() {
         let end = levels_end(slots, at + 1);
-        before = put_record(long, &slots[at + 1..end], records, next, before, 0 < frames);
-        next = before.bytes + before.acked;
+        before = put_record(long, &slots[at + 1..end], records, next, before);
+        next = before.bytes + acked(before);
         frames += 1;
         at = next_start(slots, end);
     }

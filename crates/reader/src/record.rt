@@ -8,9 +8,10 @@ ghost use Rattle.logs.specs.Frames.{Low};
 ghost use Rattle.logs.specs.Data.{attemptsOf};
 ghost use Rattle.logs.specs.Fields.{givenIn, header};
 ghost use Rattle.logs.specs.Readings.{dataOf};
+ghost use Rattle.reader.specs.Entries.{ackedIn};
 ghost use Rattle.reader.specs.Heads.{headOf};
 ghost use Rattle.reader.specs.Texts.{Wrote, pasted};
-ghost use Rattle.reader.specs.Records.{Bits, RecordPut, frontOf, frontWords, packed};
+ghost use Rattle.reader.specs.Records.{RecordPut, entryWith, firstWith, frontOf, frontWords};
 use crate::entry::Entry;
 use crate::entry::alike;
 use crate::head::Head;
@@ -54,8 +55,9 @@ fn put_data(long: bool, head: Head, levels: &[u32], records: &mut [u32], at: usi
         (now (records .exit)) ⌝ }
 {
     let ending = head.ending;
-    let bit = head.bit;
-    let bytes = head.length;
+    let fields = head.fields;
+    let bit = fields / 0x20 % 2;
+    let bytes = fields / 0x400;
     if (ending == END_BROKEN_DATA) & (DATA_PLACE < levels.len()) {
         return put_text(
             levels,
@@ -73,68 +75,72 @@ fn put_data(long: bool, head: Head, levels: &[u32], records: &mut [u32], at: usi
     }
 }
 
-fn first_word(head: Head, body: Body, again: bool) -> u32
-    requires { ⌜ Bits head body ⌝ }
-    ensures { λ r. ⌜ r ≡ packed head body again ⌝ }
+// The entry of a frame with this header and data, whose bytes stand there.
+fn entry_of(head: Head, body: Body, bytes: usize) -> Entry
+    requires { ⌜ (head .fields < 0x8_0000) × (body .acked ≤ 32) ⌝ }
+    ensures { λ r. ⌜ r ≡ entryWith head body bytes ⌝ }
 {
-    let bit = head.bit;
-    let control = head.control;
-    let length = head.length;
+    let given = head.given;
+    let fields = head.fields;
+    let addresses = head.addresses;
     let acked = body.acked;
+    Entry {
+        given,
+        said: fields + (acked as u32) * 0x8_0000,
+        addresses,
+        bytes,
+    }
+}
+
+fn first_word(said: u32, body: Body, again: bool) -> u32
+    requires { ⌜ (said < 0x200_0000) × (body .unacked ≤ 32) × (body .ending ≤ 10) ⌝ }
+    ensures { λ r. ⌜ r ≡ firstWith said body again ⌝ }
+{
     let unacked = body.unacked;
     let ending = body.ending;
-    ending
-        + (again as u32) * 0x10
-        + bit * 0x20
-        + control * 0x40
-        + length * 0x400
-        + (acked as u32) * 0x8_0000
-        + unacked * 0x200_0000
+    ending + (again as u32) * 0x10 + said + unacked * 0x200_0000
 }
 
 // How many words stand before the bytes: the second is there where the master address is given.
-fn front_words(head: Head) -> usize
-    ensures { λ r. ⌜ r ≡ frontWords head ⌝ }
+fn front_words(given: u32) -> usize
+    ensures { λ r. ⌜ r ≡ frontWords given ⌝ }
 {
-    if head.given < 2 {
+    if given < 2 {
         return 1;
     }
     2
 }
 
 // Writes the words before the bytes.
-fn put_front(records: &mut [u32], at: usize, head: Head, first: u32)
-    requires { ⌜ (at + frontWords head ≤ length (now records)) × (head .master < 0x1000) × (head .slave < 0x1000) ⌝ }
-    ensures { λ _. ⌜ now (records .exit) ≡ pasted (now (records .entry)) at (frontOf head first) ⌝ }
+fn put_front(records: &mut [u32], at: usize, entry: Entry, first: u32)
+    requires { ⌜ at + frontWords (entry .given) ≤ length (now records) ⌝ }
+    ensures { λ _. ⌜ now (records .exit) ≡ pasted (now (records .entry)) at (frontOf entry first) ⌝ }
 {
-    let master = head.master;
-    let slave = head.slave;
+    let addresses = entry.addresses;
     records[at] = first;
-    if 2 <= head.given {
-        records[at + 1] = master + slave * 0x1000;
+    if 2 <= entry.given {
+        records[at + 1] = addresses;
     }
 }
 
-// Writes the record of a frame of these levels from a place on. `some` says whether there is a frame before.
+// Writes the record of a frame of these levels from a place on.
 pub(crate) fn put_record(
     long: bool,
     levels: &[u32],
     records: &mut [u32],
     at: usize,
     before: Entry,
-    some: bool,
 ) -> Entry
     requires { ⌜ Low (now levels) × (at + 1 + length (now levels) ≤ length (now records)) ⌝ }
-    requires { ⌜ before .bytes + before .acked ≤ at ⌝ }
+    requires { ⌜ before .bytes + ackedIn before ≤ at ⌝ }
     ensures { λ r. ⌜
-        RecordPut long (now (levels .entry)) at before some (now (records .entry)) r (now (records .exit)) ⌝ }
+        RecordPut long (now (levels .entry)) at before (now (records .entry)) r (now (records .exit)) ⌝ }
 {
     let head = head_of(levels);
-    let bytes = at + front_words(head);
+    let bytes = at + front_words(head.given);
     let body = put_data(long, head, levels, records, bytes);
-    let acked = body.acked;
-    let entry = Entry { head, acked, bytes };
-    let again = some & alike(records, before, entry);
-    put_front(records, at, head, first_word(head, body, again));
+    let entry = entry_of(head, body, bytes);
+    let again = alike(records, before, entry);
+    put_front(records, at, entry, first_word(entry.said, body, again));
     entry
 }

@@ -35,22 +35,27 @@ put-records-spec =
     let end = c .before .before .levels-end .ensures in
     let room = turn .before .before .before .before .before .before .pre in
     ((levels-there inv more room end, record-room inv more room end), inv .behind))
-    (λ c. let turn = c .before .before .before .before .before .before .before in
-    let end = c .before .before .before .before .before .before .levels-end .ensures in
-    let room = turn .before .before .before .before .before .before .pre in
-    let put = c .before .before .before .put-record .ensures in
-    omega (arith, next-ahead (turn .before .loop .inv) (turn .loop-test .taken) room end put, end .within .inside))
-    (λ c. let turn = c .before .before .before .before .before .before .before in
-    omega (arith, turn .before .loop .inv .few, turn .loop-test .taken))
-    (λ c κs. c .before .before .before .before .before .before .levels-end .ensures .within .inside)
-    (λ c. let turn = c .before .before .before .before .before .before .before .before in
-    let end = c .before .before .before .before .before .before .before .levels-end .ensures in
-    omega (arith, c .next-start2 .ensures .within .ahead, end .within .ahead, turn .loop-test .taken))
-    (λ c. let turn = c .before .before .before .before .before .before .before .before in
-    let end = c .before .before .before .before .before .before .before .levels-end .ensures in
+    (λ c κs. search needs)
+    (λ c. let levels = c .before .before .before .before .before .before .before in
+    let turn = levels .before in
+    let end = levels .levels-end .ensures in
     let room = turn .before .before .before .before .before .before .pre in
     let put = c .before .before .before .before .put-record .ensures in
-    so-far-one (turn .before .loop .inv) (turn .loop-test .taken) room end put (c .next-start2 .ensures))
+    let ahead = next-ahead (turn .before .loop .inv) (turn .loop-test .taken) room end put in
+    omega (arith, ahead, c .before .acked .ensures, end .within .inside))
+    (λ c. let turn = c .before .before .before .before .before .before .before .before in
+    omega (arith, turn .before .loop .inv .few, turn .loop-test .taken))
+    (λ c κs. c .before .before .before .before .before .before .before .levels-end .ensures .within .inside)
+    (λ c. let levels = c .before .before .before .before .before .before .before .before in
+    let end = levels .levels-end .ensures in
+    omega (arith, c .next-start2 .ensures .within .ahead, end .within .ahead, levels .before .loop-test .taken))
+    (λ c. let levels = c .before .before .before .before .before .before .before .before in
+    let turn = levels .before in
+    let room = turn .before .before .before .before .before .before .pre in
+    let put = c .before .before .before .before .before .put-record .ensures in
+    rw (c .before .before .acked .ensures)
+    (so-far-one (turn .before .loop .inv) (turn .loop-test .taken) room (levels .levels-end .ensures) put
+    (c .next-start2 .ensures)))
     (λ c. c .before .loop .inv .filled .long)
     (λ c. let room = c .before .before .before .before .before .before .pre in
     so-far-all (c .before .loop .inv) (c .loop-test .left) room))

@@ -1,5 +1,9 @@
 use borrow.Author.Needs.{needs}
-use borrow.Author.Tests.{eq-eqb, ne-eqb, not-false, not-true}
+use borrow.Author.Tests.{not-false, not-true}
+use mathlib.Core.Path.{_∙_, ap, sym}
+use native.Mathlib.Omega.{arith}
+use Prim.Native.Nat.{ℕ, _/_}
+use Rattle.reader.proofs.Entries.{said-alike}
 use Rattle.reader.specs.Entries.{alikeEntries}
 use Rattle.reader.proofs.entry.alike.Statement.{statement}
 use Rattle.reader.proofs.entry.alike.Tie as tie
@@ -10,12 +14,15 @@ alike-spec =
     tie.close
     (tie.spec
     (λ c κs. search needs)
-    (λ c. let heads = c .before .alike-heads in
-    simp (← heads .ensures, not-true (heads .result) (c .if1 .taken)))
-    (λ c. let heads = c .before .before .before .alike-heads in
-    simp (← heads .ensures, not-false (heads .result) (c .before .before .if1 .left), ne-eqb _ _ (c .if2 .taken)))
+    (λ c. let fields = c .before .alike-fields in
+    simp (← fields .ensures, not-true (fields .result) (c .if1 .taken)))
     (λ c κs. search needs)
-    (λ c. let heads = c .before .before .before .before .alike-heads in
-    let counts = eq-eqb _ _ (c .before .if2 .left) in
-    simp (← heads .ensures, not-false (heads .result) (c .before .before .before .if1 .left), counts)
+    (λ c κs. let start = c .before .before .before .before in
+    let fields = c .before .before .alike-fields in
+    let said = said-alike (start .args .before) (start .args .entry)
+    (sym (fields .ensures) ∙ not-false (fields .result) (c .before .if1 .left)) in
+    let count = ap (λ (n : ℕ). n / 0x8_0000) said in
+    (omega (arith, c .acked .ensures, count, start .pre .0), omega (arith, c .acked .ensures, start .pre .1)))
+    (λ c. let fields = c .before .before .before .alike-fields in
+    simp (← fields .ensures, not-false (fields .result) (c .before .before .if1 .left), ← c .before .acked .ensures)
     (c .alike-bytes .ensures)))

@@ -33,7 +33,7 @@ head-answered-spec =
     (λ c. let nak = c .before in
     let enough = nak .before .before .before .before in
     let long = enough .before .before .before .before in
-    let bytes = nak .before .before .length-in .ensures
+    let bytes = nak .before .before .length-in .ensures .0
     ∙ ap lengthIn (nak .before .before .before .number2 .ensures .0) in
     c .header4 .ensures
     ∙ nak-length (long .before .before .pre .2) (long .before .before .pre .1)
@@ -43,7 +43,7 @@ head-answered-spec =
     (λ c. let whole = c .before in
     let enough = whole .before .before .before .before in
     let long = enough .before .before .before .before in
-    let bytes = whole .before .before .length-in .ensures
+    let bytes = whole .before .before .length-in .ensures .0
     ∙ ap lengthIn (whole .before .before .before .number2 .ensures .0) in
     c .header5 .ensures
     ∙ whole-header (long .before .before .pre .2) (long .before .before .pre .1)

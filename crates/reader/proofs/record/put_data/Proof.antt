@@ -25,8 +25,8 @@ put-data-spec =
     (λ c. let entry = c .before .before .before .before .before .before .before .before in
     let begun = c .before .before .before .before .before .if1 .taken in
     let most = c .before .before .before .before .most-attempts .ensures .0 in
-    rw (← data-text (entry .args .long) (entry .args .levels .now) (entry .pre .0 .1) begun most)
+    rw (← data-text (entry .args .long) (entry .args .levels .now) (entry .pre .0 .0) (entry .pre .0 .1) begun most)
     (c .before .before .put-text .ensures))
     (λ c. let entry = c .before .before .before in
-    rw (← data-none (entry .args .long) (entry .args .levels .now) (entry .pre .0 .1) (c .if1 .left))
+    rw (← data-none (entry .args .long) (entry .args .levels .now) (entry .pre .0 .0) (entry .pre .0 .1) (c .if1 .left))
     (record { told = refl; written = paste-zero (entry .args .records .now) (entry .args .at) [] })))

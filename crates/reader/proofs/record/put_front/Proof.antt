@@ -9,19 +9,17 @@ put-front-spec =
     tie.close
     (tie.spec
     (λ c. search needs)
-    (λ c. front-some (c .args .head) 0 (c .args .records .now) (c .args .at) (c .pre .0))
-    (λ c. search needs)
-    (λ c. search needs)
+    (λ c. front-some (c .args .entry) 0 (c .args .records .now) (c .args .at) (c .pre))
     (λ c. search needs)
     (λ c. search needs)
     (λ c. let entry = c .before .before in
     lt-length-set (entry .args .records .now) (entry .args .at) (entry .args .first)
-    (front-more (entry .args .head) 0 (entry .args .records .now) (entry .args .at) (entry .pre .0) (c .if1 .taken)))
+    (front-more (entry .args .entry) 0 (entry .args .records .now) (entry .args .at) (entry .pre) (c .if1 .taken)))
     (λ c. search needs)
     (λ c. let entry = c .before .before in
-    front-two (entry .args .head) (entry .args .first) (entry .args .records .now) (entry .args .at)
-    (entry .pre .0) (c .if1 .taken))
+    front-two (entry .args .entry) (entry .args .first) (entry .args .records .now) (entry .args .at)
+    (entry .pre) (c .if1 .taken))
     (λ c. search needs)
     (λ c. let entry = c .before .before in
-    front-one (entry .args .head) (entry .args .first) (entry .args .records .now) (entry .args .at)
-    (entry .pre .0) (c .if1 .left)))
+    front-one (entry .args .entry) (entry .args .first) (entry .args .records .now) (entry .args .at)
+    (entry .pre) (c .if1 .left)))

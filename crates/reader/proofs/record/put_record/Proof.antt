@@ -1,7 +1,7 @@
 use borrow.Author.Needs.{needs}
 use native.Mathlib.Omega.{arith}
-use Rattle.reader.proofs.Records.{Putting, front-fits, front-most, front-two-most, record-bits, record-put}
-use Rattle.reader.proofs.Records.{stands-middle}
+use Rattle.reader.proofs.Records.{Putting, entry-fits, first-fits, front-fits, front-most, front-two-most}
+use Rattle.reader.proofs.Records.{record-put, stands-middle}
 use Rattle.reader.proofs.record.put_record.Statement.{statement}
 use Rattle.reader.proofs.record.put_record.Tie as tie
 
@@ -32,17 +32,21 @@ put-record-spec =
     let most = front-most (entry .args .levels .now) (c .before .head-of .ensures) in
     omega (arith, c .front-words .ensures, most, entry .pre .0 .1))
     (λ c κs. let entry = c .before .before .before .before .before in
-    let few = front-two-most (c .before .before .head-of .result) in
+    let few = front-two-most (c .before .before .head-of .result .given) in
     let is = c .before .before .head-of .ensures in
     ((entry .pre .0 .0, is), omega (arith, c .before .front-words .ensures, few, entry .pre .0 .1)))
-    (λ c κs. let inside = stands-middle (putting (c .before .before .before)) .inside in
-    let ahead = start (c .before .before .before) .pre .1 in
-    (omega (arith, inside), inside))
-    (λ c κs. record-bits (putting (c .before .before .before .before .before)))
-    (λ c κs. front-fits (putting (c .before .before .before .before .before .before)))
+    (λ c κs. entry-fits (putting (c .before .before)))
+    (λ c κs. let wrote = c .before .before .before .before in
+    let inside = stands-middle (putting wrote) .inside in
+    rw (c .before .entry-of .ensures) (omega (arith, inside, start wrote .pre .1), inside))
+    (λ c κs. let wrote = c .before .before .before .before .before .before in
+    rw (c .before .before .before .entry-of .ensures) (first-fits (putting wrote)))
+    (λ c κs. let wrote = c .before .before .before .before .before .before .before in
+    rw (c .before .before .before .before .entry-of .ensures) (front-fits (putting wrote)))
     (λ c. search needs)
-    (λ c. let wrote = c .before .before .before .before .before .before .before .before .before in
+    (λ c. let entered = c .before .before .before .before .before .before .before in
+    let wrote = entered .before .before .before in
     let alike = c .before .before .before .before .before .alike in
-    let args = start wrote .args in
-    record-put (putting wrote) (args .before) (args .some) (alike .result) (start wrote .pre .1) (alike .ensures)
+    record-put (putting wrote) (entered .entry-of .ensures) (start wrote .args .before) (alike .result)
+    (start wrote .pre .1) (alike .ensures)
     (c .before .before .before .first-word .ensures) (c .before .before .put-front .ensures)))
