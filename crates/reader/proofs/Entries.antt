@@ -113,12 +113,6 @@ second-alike : (m s m₁ s₁ : ℕ) → m < 0x1000 → m₁ < 0x1000 → m + s 
     → (m ≡ m₁) × (s ≡ s₁)
 second-alike m s m₁ s₁ hm hm₁ e = (omega arith, omega arith)
 
-pub acked-counted : {r : Reading} {a : Entry} {records : List ℕ} → Stands r a records
-    → ackedIn a ≡ length (r .text .acked)
-acked-counted {r} {a} p =
-    let v = p .values in
-    rw (p .said) (omega (arith, v .bit-low, v .control-low, v .bytes-most))
-
 -- entries with alike fields say the same of them
 pub said-alike : (a b : Entry) → alikeFields a b ≡ true → a .said ≡ b .said
 said-alike a b test =

@@ -4,6 +4,8 @@ ghost use Prim.Native.Nat.{_+_, _≤_};
 ghost use lib.ListN.{length};
 ghost use Rattle.line.specs.Cases.{same};
 ghost use Rattle.reader.specs.Entries.{ackedIn, alikeEntries, alikeFields, bytesFrom};
+use crate::words::ACKED_UNIT;
+use crate::words::ATTEMPTS_UNIT;
 
 // A frame whose bytes have been written: how many fields are given, what its record's first word says of them and of
 // the number of ACKed bytes, its second word, 0 where there is none, and where its bytes stand in the records.
@@ -18,7 +20,7 @@ pub struct Entry {
 pub(crate) fn acked(entry: Entry) -> usize
     ensures { λ r. ⌜ r ≡ ackedIn entry ⌝ }
 {
-    (entry.said / 0x8_0000) as usize
+    (entry.said / ACKED_UNIT) as usize
 }
 
 // Whether the same fields are given, they are equal, and as many bytes were ACKed.
@@ -36,7 +38,7 @@ fn alike_bytes(records: &[u32], a: usize, b: usize, count: usize) -> bool
 {
     let mut i: usize = 0;
     while i < count {
-        if records[a + i] % 0x100 != records[b + i] % 0x100 {
+        if records[a + i] % ATTEMPTS_UNIT != records[b + i] % ATTEMPTS_UNIT {
             return false;
         }
         i += 1;

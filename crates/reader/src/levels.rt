@@ -12,7 +12,7 @@ use line::numbers::SLOT_IDLE;
 use line::numbers::SLOT_START;
 
 // So many words from a place on, laid over each other: the result has each binary digit that one of them has, so it is
-// below a power of two exactly if all of them are. To look at every word and to test once is cheaper than a test of each.
+// below a power of two exactly if all of them are. To look at every word and test once is cheaper than a test of each.
 fn overlaid(slots: &[u32], from: usize, count: usize) -> u32
     requires { ⌜ from + count ≤ length (now slots) ⌝ }
     ensures { λ r. ⌜ Overlaid (now (slots .entry)) from count r ⌝ }

@@ -6,6 +6,7 @@ mod head;
 mod levels;
 mod record;
 mod text;
+mod words;
 
 ghost use mathlib.Core.Path.{_≡_};
 ghost use mathlib.Core.List.{_++_};
