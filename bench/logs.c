@@ -2,8 +2,10 @@
 
    logs KIND SLOTS
 
-   Draws a log of so many slots with a fixed seed, `busy`, `mixed`, `cut` or `starts`, and lets each reader read it
-   once. Fails where a record differs, because the cost of wrong records says nothing. */
+   Draws a log of so many slots with a fixed seed, `busy`, `mixed`, `cut` or `starts`, or a log of frames that all have
+   as many levels as the number that KIND is, and lets each reader read it once. Fails where a record differs, because
+   the cost of wrong records says nothing. */
+#include <ctype.h>
 #include <stdbool.h>
 #include <stdio.h>
 #include <stdlib.h>
@@ -21,9 +23,11 @@ static log_reader *const readers[] = {plain_read_log, model_read_log, iebus_read
 
 enum { READERS = sizeof readers / sizeof *readers };
 
+typedef void draw_log_kind(struct random *r, struct log *log);
+
 struct log_kind {
     const char *name;
-    void (*draw)(struct random *r, struct log *log);
+    draw_log_kind *draw;
 };
 
 static const struct log_kind kinds[] = {
@@ -34,6 +38,20 @@ static const struct log_kind kinds[] = {
 };
 
 enum { KINDS = sizeof kinds / sizeof *kinds };
+
+static size_t levels_each;
+
+/* Fills the room with start, so many levels and idle, over and over. The levels are all 1, so that a frame that has its
+   slave address gets NAK there. */
+static void draw_alike_log(struct random *r, struct log *log)
+{
+    (void)r;
+    size_t place = 0;
+    for (log->len = 0; log->len < log->room; place = (place + 1) % (levels_each + 2))
+        log->slots[log->len++] = place == 0               ? IEBUS_SLOT_START
+                                 : place <= levels_each ? IEBUS_SLOT_HIGH
+                                                          : IEBUS_SLOT_IDLE;
+}
 
 /* Each reader once: whether all records are the first reader's, which come to stand in `expected`. */
 static bool read_alike(const struct log *log, uint32_t *expected, uint32_t *records)
@@ -51,14 +69,14 @@ static bool read_alike(const struct log *log, uint32_t *expected, uint32_t *reco
     return true;
 }
 
-static bool measure(const struct log_kind *kind, size_t slots)
+static bool measure(draw_log_kind *draw, size_t slots)
 {
     struct log log = {.mode = MODE, .room = slots, .slots = malloc(slots * sizeof *log.slots)};
     uint32_t *expected = malloc(slots * sizeof *expected), *records = malloc(slots * sizeof *records);
     struct random r = random_seeded(SEED);
     bool alike = false;
     if (log.slots && expected && records) {
-        kind->draw(&r, &log);
+        draw(&r, &log);
         alike = read_alike(&log, expected, records);
     }
     if (!alike)
@@ -73,7 +91,11 @@ int main(int argc, char **argv)
 {
     for (int i = 0; i < KINDS && argc == 3; i++)
         if (strcmp(argv[1], kinds[i].name) == 0)
-            return !measure(&kinds[i], strtoul(argv[2], NULL, 10));
-    fputs("logs busy|mixed|cut|starts SLOTS\n", stderr);
+            return !measure(kinds[i].draw, strtoul(argv[2], NULL, 10));
+    if (argc == 3 && isdigit((unsigned char)*argv[1])) {
+        levels_each = strtoul(argv[1], NULL, 10);
+        return !measure(draw_alike_log, strtoul(argv[2], NULL, 10));
+    }
+    fputs("logs busy|mixed|cut|starts|LEVELS SLOTS\n", stderr);
     return 2;
 }
