@@ -5,7 +5,6 @@
    Draws a log of so many slots with a fixed seed, `busy`, `mixed`, `cut` or `starts`, or a log of frames that all have
    as many levels as the number that KIND is, and lets each reader read it once. Fails where a record differs, because
    the cost of wrong records says nothing. */
-#include <ctype.h>
 #include <stdbool.h>
 #include <stdio.h>
 #include <stdlib.h>
@@ -23,11 +22,9 @@ static log_reader *const readers[] = {plain_read_log, model_read_log, iebus_read
 
 enum { READERS = sizeof readers / sizeof *readers };
 
-typedef void draw_log_kind(struct random *r, struct log *log);
-
 struct log_kind {
     const char *name;
-    draw_log_kind *draw;
+    void (*draw)(struct random *r, struct log *log);
 };
 
 static const struct log_kind kinds[] = {
@@ -39,18 +36,32 @@ static const struct log_kind kinds[] = {
 
 enum { KINDS = sizeof kinds / sizeof *kinds };
 
-static size_t levels_each;
-
 /* Fills the room with start, so many levels and idle, over and over. The levels are all 1, so that a frame that has its
    slave address gets NAK there. */
-static void draw_alike_log(struct random *r, struct log *log)
+static void put_alike(size_t levels, struct log *log)
 {
-    (void)r;
-    size_t place = 0;
-    for (log->len = 0; log->len < log->room; place = (place + 1) % (levels_each + 2))
-        log->slots[log->len++] = place == 0               ? IEBUS_SLOT_START
-                                 : place <= levels_each ? IEBUS_SLOT_HIGH
-                                                          : IEBUS_SLOT_IDLE;
+    for (size_t i = 0; i < log->room; i++) {
+        size_t place = i % (levels + 2);
+        log->slots[i] = place == 0 ? IEBUS_SLOT_START : place <= levels ? IEBUS_SLOT_HIGH : IEBUS_SLOT_IDLE;
+    }
+    log->len = log->room;
+}
+
+/* False where there is no such kind of log. */
+static bool fill(const char *kind, struct log *log)
+{
+    struct random r = random_seeded(SEED);
+    for (int i = 0; i < KINDS; i++)
+        if (strcmp(kind, kinds[i].name) == 0) {
+            kinds[i].draw(&r, log);
+            return true;
+        }
+    char *end;
+    size_t levels = strtoul(kind, &end, 10);
+    if (end == kind || *end)
+        return false;
+    put_alike(levels, log);
+    return true;
 }
 
 /* Each reader once: whether all records are the first reader's, which come to stand in `expected`. */
@@ -69,18 +80,11 @@ static bool read_alike(const struct log *log, uint32_t *expected, uint32_t *reco
     return true;
 }
 
-static bool measure(draw_log_kind *draw, size_t slots)
+static bool measure(const char *kind, size_t slots)
 {
     struct log log = {.mode = MODE, .room = slots, .slots = malloc(slots * sizeof *log.slots)};
     uint32_t *expected = malloc(slots * sizeof *expected), *records = malloc(slots * sizeof *records);
-    struct random r = random_seeded(SEED);
-    bool alike = false;
-    if (log.slots && expected && records) {
-        draw(&r, &log);
-        alike = read_alike(&log, expected, records);
-    }
-    if (!alike)
-        fputs("logs: the records differ, or there is no room\n", stderr);
+    bool alike = log.slots && expected && records && fill(kind, &log) && read_alike(&log, expected, records);
     free(log.slots);
     free(expected);
     free(records);
@@ -89,13 +93,9 @@ static bool measure(draw_log_kind *draw, size_t slots)
 
 int main(int argc, char **argv)
 {
-    for (int i = 0; i < KINDS && argc == 3; i++)
-        if (strcmp(argv[1], kinds[i].name) == 0)
-            return !measure(kinds[i].draw, strtoul(argv[2], NULL, 10));
-    if (argc == 3 && isdigit((unsigned char)*argv[1])) {
-        levels_each = strtoul(argv[1], NULL, 10);
-        return !measure(draw_alike_log, strtoul(argv[2], NULL, 10));
-    }
-    fputs("logs busy|mixed|cut|starts|LEVELS SLOTS\n", stderr);
-    return 2;
+    if (argc == 3 && measure(argv[1], strtoul(argv[2], NULL, 10)))
+        return 0;
+    fputs("logs busy|mixed|cut|starts|LEVELS SLOTS\n"
+          "No such log, no room for it, or the records differ.\n", stderr);
+    return 1;
 }

@@ -11,7 +11,7 @@ pub record Within (slots : List ℕ) (from place : ℕ) : Type 0 where
   pub ahead : from ≤ place
   pub inside : place ≤ length slots
 
--- so many words from a place on, laid over each other: no word is greater, and it has no digit that none of them has
+-- so many words from a place on, laid over each other: no word is greater, and it has no more digits than all of them
 pub record Overlaid (slots : List ℕ) (from count digits : ℕ) : Type 0 where
   pub most : (k : ℕ) → k < count → getD slots (from + k) 0 ≤ digits
   pub fits : (width : ℕ) → ((k : ℕ) → k < count → getD slots (from + k) 0 < 2 ^ width) → digits < 2 ^ width

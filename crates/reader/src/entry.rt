@@ -4,11 +4,12 @@ ghost use Prim.Native.Nat.{_+_, _≤_};
 ghost use lib.ListN.{length};
 ghost use Rattle.line.specs.Cases.{same};
 ghost use Rattle.reader.specs.Entries.{ackedIn, alikeEntries, alikeFields, bytesFrom};
-use crate::words::ACKED_UNIT;
-use crate::words::ATTEMPTS_UNIT;
+use crate::words::ACKED_WEIGHT;
+use crate::words::ATTEMPTS_WEIGHT;
 
 // A frame whose bytes have been written: how many fields are given, what its record's first word says of them and of
-// the number of ACKed bytes, its second word, 0 where there is none, and where its bytes stand in the records.
+// the number of ACKed bytes, its second word, 0 where there is none, and where its bytes stand in the records. So few
+// numbers are cheap to hand on to the next frame and to compare.
 pub struct Entry {
     pub given: u32,
     pub said: u32,
@@ -20,7 +21,7 @@ pub struct Entry {
 pub(crate) fn acked(entry: Entry) -> usize
     ensures { λ r. ⌜ r ≡ ackedIn entry ⌝ }
 {
-    (entry.said / ACKED_UNIT) as usize
+    (entry.said / ACKED_WEIGHT) as usize
 }
 
 // Whether the same fields are given, they are equal, and as many bytes were ACKed.
@@ -38,7 +39,7 @@ fn alike_bytes(records: &[u32], a: usize, b: usize, count: usize) -> bool
 {
     let mut i: usize = 0;
     while i < count {
-        if records[a + i] % ATTEMPTS_UNIT != records[b + i] % ATTEMPTS_UNIT {
+        if records[a + i] % ATTEMPTS_WEIGHT != records[b + i] % ATTEMPTS_WEIGHT {
             return false;
         }
         i += 1;

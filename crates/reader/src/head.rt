@@ -6,10 +6,10 @@ ghost use Rattle.logs.specs.Frames.{Low};
 ghost use Rattle.logs.specs.Fields.{lengthIn};
 ghost use Rattle.reader.specs.Heads.{Addressed, Values, headOf, headWith};
 use crate::levels::number;
-use crate::words::BIT_UNIT;
-use crate::words::CONTROL_UNIT;
-use crate::words::LENGTH_UNIT;
-use crate::words::SLAVE_UNIT;
+use crate::words::BIT_WEIGHT;
+use crate::words::CONTROL_WEIGHT;
+use crate::words::LENGTH_WEIGHT;
+use crate::words::SLAVE_WEIGHT;
 use line::numbers::END_BROKEN_BIT;
 use line::numbers::END_BROKEN_CONTROL;
 use line::numbers::END_BROKEN_DATA;
@@ -23,7 +23,7 @@ use line::numbers::LENGTH_OF_ZERO;
 
 // How many of the five fields are given, then their values as a record's words hold them, 0 for one that is not given:
 // broadcast bit, control and length as in its first word, master and slave as in its second; and how the frame ended,
-// as far as its header tells. In so few words a header is cheap to hand on and to compare.
+// as far as its header tells.
 pub struct Head {
     pub given: u32,
     pub fields: u32,
@@ -56,8 +56,8 @@ fn header(
 {
     Head {
         given,
-        fields: bit * BIT_UNIT + control * CONTROL_UNIT + length * LENGTH_UNIT,
-        addresses: master + slave * SLAVE_UNIT,
+        fields: bit * BIT_WEIGHT + control * CONTROL_WEIGHT + length * LENGTH_WEIGHT,
+        addresses: master + slave * SLAVE_WEIGHT,
         ending,
     }
 }

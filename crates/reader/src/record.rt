@@ -19,11 +19,11 @@ use crate::head::head_of;
 use crate::text::Body;
 use crate::text::DATA_PLACE;
 use crate::text::put_text;
-use crate::words::ACKED_UNIT;
-use crate::words::AGAIN_UNIT;
-use crate::words::BIT_UNIT;
-use crate::words::LENGTH_UNIT;
-use crate::words::UNACKED_UNIT;
+use crate::words::ACKED_WEIGHT;
+use crate::words::AGAIN_WEIGHT;
+use crate::words::BIT_WEIGHT;
+use crate::words::LENGTH_WEIGHT;
+use crate::words::UNACKED_WEIGHT;
 use line::numbers::ATTEMPTS_MODE_0;
 use line::numbers::ATTEMPTS_MODE_1;
 use line::numbers::END_BROKEN_DATA;
@@ -61,8 +61,8 @@ fn put_data(long: bool, head: Head, levels: &[u32], records: &mut [u32], at: usi
 {
     let ending = head.ending;
     let fields = head.fields;
-    let bit = fields / BIT_UNIT % 2;
-    let bytes = fields / LENGTH_UNIT;
+    let bit = fields / BIT_WEIGHT % 2;
+    let bytes = fields / LENGTH_WEIGHT;
     if (ending == END_BROKEN_DATA) & (DATA_PLACE < levels.len()) {
         return put_text(
             levels,
@@ -91,7 +91,7 @@ fn entry_of(head: Head, body: Body, bytes: usize) -> Entry
     let acked = body.acked;
     Entry {
         given,
-        said: fields + (acked as u32) * ACKED_UNIT,
+        said: fields + (acked as u32) * ACKED_WEIGHT,
         addresses,
         bytes,
     }
@@ -103,7 +103,7 @@ fn first_word(said: u32, body: Body, again: bool) -> u32
 {
     let unacked = body.unacked;
     let ending = body.ending;
-    ending + (again as u32) * AGAIN_UNIT + said + unacked * UNACKED_UNIT
+    ending + (again as u32) * AGAIN_WEIGHT + said + unacked * UNACKED_WEIGHT
 }
 
 // How many words stand before the bytes: the second is there where the master address is given.

@@ -7,7 +7,7 @@ ghost use Rattle.logs.specs.Frames.{Low};
 ghost use Rattle.logs.specs.Data.{byteIn, counts, textFrom};
 ghost use Rattle.reader.specs.Texts.{Wrote, endingIn};
 use crate::levels::number;
-use crate::words::ATTEMPTS_UNIT;
+use crate::words::ATTEMPTS_WEIGHT;
 use line::numbers::END_BROKEN_DATA;
 use line::numbers::END_SHORT;
 use line::numbers::END_WHOLE;
@@ -77,7 +77,7 @@ pub(crate) fn put_text(
         let byte = number(levels, from, 8);
         let attempts = since + 1;
         if is_acked(levels, from, bit, byte) {
-            records[at + acked] = byte + attempts * ATTEMPTS_UNIT;
+            records[at + acked] = byte + attempts * ATTEMPTS_WEIGHT;
             acked += 1;
             missing -= 1;
             since = 0;

@@ -1,17 +1,17 @@
 // What the numbers in a record's words are multiplied by, each where its bits begin.
-pub(crate) const AGAIN_UNIT: u32 = 0x10;
+pub(crate) const AGAIN_WEIGHT: u32 = 0x10;
 
-pub(crate) const BIT_UNIT: u32 = 0x20;
+pub(crate) const BIT_WEIGHT: u32 = 0x20;
 
-pub(crate) const CONTROL_UNIT: u32 = 0x40;
+pub(crate) const CONTROL_WEIGHT: u32 = 0x40;
 
-pub(crate) const LENGTH_UNIT: u32 = 0x400;
+pub(crate) const LENGTH_WEIGHT: u32 = 0x400;
 
-pub(crate) const ACKED_UNIT: u32 = 0x8_0000;
+pub(crate) const ACKED_WEIGHT: u32 = 0x8_0000;
 
-pub(crate) const UNACKED_UNIT: u32 = 0x200_0000;
+pub(crate) const UNACKED_WEIGHT: u32 = 0x200_0000;
 
 // In the second word the slave stands above the master, and in a byte's word the attempts above the byte.
-pub(crate) const SLAVE_UNIT: u32 = 0x1000;
+pub(crate) const SLAVE_WEIGHT: u32 = 0x1000;
 
-pub(crate) const ATTEMPTS_UNIT: u32 = 0x100;
+pub(crate) const ATTEMPTS_WEIGHT: u32 = 0x100;
