@@ -11,8 +11,8 @@ OUT = target
 LIBRARY = $(OUT)/libiebus.a
 EXAMPLE = $(OUT)/host/bench
 
-# it has the functions of the crate `exports`; everything else in it is local
-ARCHIVE = $(OUT)/staticlib/libexports.a
+# it has the functions for C of the crates; everything else in it is local
+ARCHIVE = $(OUT)/staticlib/libiebus.a
 HOST = $(patsubst host/%.c,$(OUT)/host/%.o,$(wildcard host/*.c))
 
 all: $(LIBRARY)

@@ -20,7 +20,8 @@
        iebus_unit_run(state, sizeof state, in, sizeof in, out, sizeof out);
        drive = IEBUS_DRIVE(iebus_get_word(out));
 
-   A whole host is in host/. The contracts are in crates/exports/src/lib.rt. */
+   A whole host is in host/. The contracts are in src/lib.rt of crates/unit_exports and
+   crates/line_exports. */
 #ifndef IEBUS_H
 #define IEBUS_H
 

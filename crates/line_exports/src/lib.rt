@@ -1,20 +1,15 @@
-// What a host in C calls, and nothing else: each function hands on to a library below, whose contract it keeps. No
-// function has a `requires`, and nothing is assumed.
+// What a host in C calls of the line as a whole, for which it needs no unit: each function hands on to a library below,
+// whose contract it keeps. No function has a `requires`, and nothing is assumed.
 ghost use Rattle.contenders.specs.Contest.{ContestedWord, NamedRightly, contendersOf, verdictIn};
-ghost use Rattle.lists.specs.Bytes.{CalledBytes};
 ghost use Rattle.logs.specs.Log.{CalledLog, longIn};
 ghost use Rattle.logs.specs.Relied.{Relied};
-ghost use Rattle.rules.specs.State.{reset};
-ghost use Rattle.keeping.specs.Calls.{Ran, Reset};
 use contenders::Contender;
 use contenders::Contenders;
 use line::numbers::REFUSED_NO_SLOT;
 use line::numbers::REFUSED_SHORT_LIST;
-use list_run::bytes::run_bytes;
 use logs::LogRead;
 use reader::read_log;
 use records::gathered;
-use unit::step::Unit;
 
 // A verdict as one number: the refusal's number in the upper half, the place in the lower.
 const WORD_HALF: u32 = 65536;
@@ -38,33 +33,6 @@ pub extern "C" fn iebus_contest(records: &[Contender], lost: &mut [u32]) -> u32
     ensures named { λ r. ⌜ NamedRightly (now (records .entry)) (verdictIn r) ⌝ }
 {
     contest_word(gathered(records), lost)
-}
-
-// "The same run from a reset unit is exported to the bench host, written in C, over byte slices, each word
-// little-endian; it returns 0 or a refusal."
-#[no_mangle]
-pub extern "C" fn iebus_run(words: &[u8], answers: &mut [u8]) -> u32
-    ensures { λ r. ⌜ CalledBytes reset (now (words .entry)) (now (answers .entry)) r (now (answers .exit)) ⌝ }
-{
-    let ran = run_bytes(Unit::reset(), words, answers);
-    ran.number
-}
-
-// A reset unit in `state`: 0, or 100 where `state` has not the size of a state; then nothing is written.
-#[no_mangle]
-pub extern "C" fn iebus_unit_reset(state: &mut [u8]) -> u32
-    ensures { λ r. ⌜ Reset (now (state .entry)) r (now (state .exit)) ⌝ }
-{
-    lasting::calls::reset(state)
-}
-
-// The words run from the unit that `state` keeps, which then keeps the unit that is left: 0, 11, 12 or 100.
-#[no_mangle]
-pub extern "C" fn iebus_unit_run(state: &mut [u8], words: &[u8], answers: &mut [u8]) -> u32
-    ensures { λ r. ⌜ Ran (now (state .entry)) (now (words .entry)) (now (answers .entry)) r (now (state .exit))
-        (now (answers .exit)) ⌝ }
-{
-    lasting::calls::run(state, words, answers)
 }
 
 // A record for each frame of a log, one behind the other: 0 and the number of frames, or 12 or 16.

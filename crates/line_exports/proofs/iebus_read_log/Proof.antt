@@ -1,8 +1,8 @@
 use borrow.Author.Needs.{needs}
 use Rattle.logs.proofs.Called.{called}
 use Rattle.logs.specs.Log.{framesAfter, numberOf}
-use Rattle.exports.proofs.iebus_read_log.Statement.{statement}
-use Rattle.exports.proofs.iebus_read_log.Tie as tie
+use Rattle.line_exports.proofs.iebus_read_log.Statement.{statement}
+use Rattle.line_exports.proofs.iebus_read_log.Tie as tie
 
 pub iebus-read-log-spec : {M : Type 1} → statement M
 unfolding framesAfter numberOf

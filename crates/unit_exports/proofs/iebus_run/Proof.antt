@@ -1,6 +1,6 @@
 use borrow.Author.Needs.{needs}
-use Rattle.exports.proofs.iebus_run.Statement.{statement}
-use Rattle.exports.proofs.iebus_run.Tie as tie
+use Rattle.unit_exports.proofs.iebus_run.Statement.{statement}
+use Rattle.unit_exports.proofs.iebus_run.Tie as tie
 
 pub iebus-run-spec : {M : Type 1} → statement M
 iebus-run-spec =

@@ -10,15 +10,15 @@ use Rattle.contenders.specs.declared.Contender.{Contender}
 use Rattle.records.proofs.Lists.{word-listed, word-named}
 use denote.Triple.Spec.{tripleOf}
 use denote.Triple.Table.{entered, cited}
-use Rattle.exports.proofs.contest_word.Symbol as core-def
-use Rattle.exports.proofs.contest_word.Met as core-thm
+use Rattle.line_exports.proofs.contest_word.Symbol as core-def
+use Rattle.line_exports.proofs.contest_word.Met as core-thm
 use Rattle.records.proofs.gathered.Symbol as gathered-def
 use Rattle.records.proofs.gathered.Met as gathered-thm
 use Rattle.records.proofs.Passing.{Gathered, Core, meets}
-use Rattle.exports.proofs.iebus_contest.Key.{name as #iebus-contest}
-use Rattle.exports.proofs.iebus_contest as f
-use Rattle.exports.proofs.iebus_contest.Statement as stated
-use Rattle.exports.proofs.iebus_contest.Code as code
+use Rattle.line_exports.proofs.iebus_contest.Key.{name as #iebus-contest}
+use Rattle.line_exports.proofs.iebus_contest as f
+use Rattle.line_exports.proofs.iebus_contest.Statement as stated
+use Rattle.line_exports.proofs.iebus_contest.Code as code
 
 abbrev Named : List Contender → ℕ → Type 0
 Named cs word = NamedRightly cs (verdictIn word)
@@ -36,4 +36,4 @@ iebus-contest-spec 𝓤 H 𝓜 𝓖 𝓡 =
     (cited 𝓤 H (Gathered 𝓤 H (𝓖 .A) (𝓜 .mem) (𝓡 .run)) 𝓜 𝓡 code.env gathered-def.name gathered-def.routine
     code.calls-records·gathered (gathered-thm.met 𝓤 H 𝓜 𝓖 𝓡))
     (cited 𝓤 H (Core u32 ContestedWord Named 𝓤 H (𝓖 .A)) 𝓜 𝓡 code.env core-def.name core-def.routine
-    code.calls-exports·contest-word (core-thm.met 𝓤 H 𝓜 𝓖 𝓡)))
+    code.calls-line-exports·contest-word (core-thm.met 𝓤 H 𝓜 𝓖 𝓡)))

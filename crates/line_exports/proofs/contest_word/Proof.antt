@@ -2,8 +2,8 @@ use mathlib.Core.Path.{refl}
 use native.Mathlib.Omega.{arith}
 use borrow.Author.Needs.{needs}
 use Rattle.records.proofs.Words.{place-fits, contest-told, word-told}
-use Rattle.exports.proofs.contest_word.Statement.{statement}
-use Rattle.exports.proofs.contest_word.Tie as tie
+use Rattle.line_exports.proofs.contest_word.Statement.{statement}
+use Rattle.line_exports.proofs.contest_word.Tie as tie
 
 pub contest-word-spec : {M : Type 1} → statement M
 contest-word-spec =

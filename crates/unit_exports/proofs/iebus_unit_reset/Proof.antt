@@ -1,6 +1,6 @@
 use borrow.Author.Needs.{needs}
-use Rattle.exports.proofs.iebus_unit_reset.Statement.{statement}
-use Rattle.exports.proofs.iebus_unit_reset.Tie as tie
+use Rattle.unit_exports.proofs.iebus_unit_reset.Statement.{statement}
+use Rattle.unit_exports.proofs.iebus_unit_reset.Tie as tie
 
 pub iebus-unit-reset-spec : {M : Type 1} → statement M
 iebus-unit-reset-spec =
