@@ -1,7 +1,7 @@
 # Counting for the gate: `suite` runs one suite of tests, under a heading, and adds up what its last line says.
 passed=0
 failed=0
-beside_job=''
+beside_count=0
 
 # suite NAME COMMAND..: a suite ends with the line 'N passed, M failed'. Where it has no such line, counts nothing at
 # all, or ends with another status than 0 although it counts no failure, that is a failure itself.
@@ -30,24 +30,31 @@ suite() {
     failed=$((failed + suite_failed))
 }
 
-# beside COMMAND..: starts a suite that what follows need not wait for; `joined NAME` waits for it and counts it
+# beside NAME COMMAND..: starts a suite that what follows need not wait for, with what that leaves of the processors;
+# `joined` waits for all of them and counts them
 beside() {
-    all_joined
     beside_log=$(mktemp) || exit 2
-    { "$@"; echo $? >"$beside_log.status"; } >"$beside_log" 2>&1 &
-    beside_job=$!
+    beside_count=$((beside_count + 1))
+    eval "beside_log_$beside_count=\$beside_log beside_name_$beside_count=\$1"
+    shift
+    { nice -n 19 "$@"; echo $? >"$beside_log.status"; } >"$beside_log" 2>&1 &
+    eval "beside_job_$beside_count=\$!"
 }
 
 joined() {
-    wait "$beside_job"
-    suite "$1" told_beside
-    rm -f "$beside_log" "$beside_log.status"
-    beside_job=''
+    beside_at=1
+    while [ "$beside_at" -le "$beside_count" ]; do
+        eval "beside_log=\$beside_log_$beside_at beside_name=\$beside_name_$beside_at; wait \$beside_job_$beside_at"
+        suite "$beside_name" told_beside
+        rm -f "$beside_log" "$beside_log.status"
+        beside_at=$((beside_at + 1))
+    done
+    beside_count=0
 }
 
 # all_joined: no suite is left beside that nobody has counted
 all_joined() {
-    [ -z "$beside_job" ] || one 'a suite beside that was not joined' false
+    [ "$beside_count" = 0 ] || one 'a suite beside that was not joined' false
 }
 
 # what the suite beside has said, and its status; one that was cut off has none, and fails
