@@ -31,13 +31,14 @@ suite() {
 }
 
 # beside NAME COMMAND..: starts a suite that what follows need not wait for, with what that leaves of the processors;
-# `joined` waits for all of them and counts them
+# `joined` waits for all of them, and for whatever they started, and counts them. Where the gate is interrupted they run
+# to their end.
 beside() {
     beside_log=$(mktemp) || exit 2
     beside_count=$((beside_count + 1))
     eval "beside_log_$beside_count=\$beside_log beside_name_$beside_count=\$1"
     shift
-    { nice -n 19 "$@"; echo $? >"$beside_log.status"; } >"$beside_log" 2>&1 &
+    { nice -n 19 "$@"; echo $? >"$beside_log.status"; } 2>&1 | cat >"$beside_log" &
     eval "beside_job_$beside_count=\$!"
 }
 
