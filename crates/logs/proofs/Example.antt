@@ -1,5 +1,5 @@
--- The premises of what a user relies on are met: by a frame that is said again with another P, and by frames that end
--- in their header and in their data.
+-- The premises of what a user relies on are met: by a frame that is said again with another P, by one that took more
+-- attempts, and by frames that end in their header and in their data.
 use mathlib.Core.Bool.{true, false}
 use mathlib.Core.List.{List, [], _∷_, _++_}
 use mathlib.Core.Path.{refl}
@@ -8,13 +8,13 @@ use native.Mathlib.Omega.{arith}
 use lib.Count.{ones, onesIn}
 use lib.ListN.{drop}
 use Rattle.line.specs.Parity.{levelOf, levelsOf, parityOf}
-use Rattle.logs.specs.Cases.{ack, called, missent, nak, one, sent, sized}
+use Rattle.logs.specs.Cases.{ack, called, late, missent, nak, one, sent, sized}
 use Rattle.logs.specs.Data.{textFrom}
 use Rattle.logs.specs.Fields.{endIn, givenIn, numberFrom}
 use Rattle.logs.specs.Frames.{framesOf, levelsFrom}
-use Rattle.logs.specs.Readings.{Reading, dataOf, equalFrames, readOf}
-use Rattle.logs.specs.Records.{Record, markedAfter, recordsOf}
-use Rattle.logs.specs.Relied.{DataSays, HeaderSays, SaysAgain, TakenApart, headerEnd}
+use Rattle.logs.specs.Readings.{Reading, dataOf, equalFrames, equalSaid, readOf}
+use Rattle.logs.specs.Records.{Record, markedBy, recordsBy}
+use Rattle.logs.specs.Relied.{DataSays, HeaderSays, SaysAgain, TakenApart, TookSame, headerEnd}
 use Rattle.logs.proofs.Relied.{relied}
 
 -- a frame, and the same again
@@ -34,12 +34,18 @@ abbrev second : Record
 second = record { again = true; reading = said later }
 
 pub said-again : SaysAgain (said earlier) (said later)
-unfolding ones onesIn levelOf levelsOf parityOf framesOf levelsFrom recordsOf markedAfter equalFrames readOf
+unfolding ones onesIn levelOf levelsOf parityOf framesOf levelsFrom recordsBy markedBy equalFrames equalSaid readOf
     dataOf givenIn endIn numberFrom textFrom
 said-again = relied false .again (earlier ++ later) [] first second [] refl .only refl
 
+-- a frame that ticket 1 called again, which the numbers of its attempts tell apart
+pub mark-lost : TookSame (said earlier) (said (late 0x7B)) → ⊥
+unfolding ones onesIn levelOf levelsOf parityOf framesOf levelsFrom recordsBy markedBy equalFrames equalSaid readOf
+    dataOf givenIn endIn numberFrom textFrom
+mark-lost = relied false .narrower (earlier ++ late 0x7B) .lost 0 refl refl
+
 pub second-apart : TakenApart second
-unfolding ones onesIn levelOf levelsOf parityOf framesOf levelsFrom recordsOf markedAfter equalFrames readOf
+unfolding ones onesIn levelOf levelsOf parityOf framesOf levelsFrom recordsBy markedBy equalFrames equalSaid readOf
     dataOf givenIn endIn numberFrom textFrom
 second-apart = relied false .apart (earlier ++ later) (first ∷ []) second [] refl
 
@@ -50,6 +56,6 @@ header-told = relied false .header-says (drop 1 (called 1 nak)) (omega arith)
 
 -- one whose byte took a second attempt
 pub data-told :
-    DataSays false (sent 0x7B nak ++ sent 0x7B ack) (said (sized 1 ++ sent 0x7B nak ++ sent 0x7B ack))
+    DataSays false (sent 0x7B nak ++ sent 0x7B ack) (said (late 0x7B))
 unfolding ones onesIn levelOf levelsOf parityOf headerEnd
-data-told = relied false .data-says (drop 1 (sized 1 ++ sent 0x7B nak ++ sent 0x7B ack)) refl
+data-told = relied false .data-says (drop 1 (late 0x7B)) refl

@@ -6,6 +6,7 @@ pub mod Readings
 pub mod Headers
 pub mod Marks
 pub mod Again
+pub mod Narrower
 pub mod Attempts
 pub mod Apart
 pub mod Relied

@@ -11,10 +11,10 @@ use Rattle.line.specs.Numbers.{slotStart}
 use Rattle.logs.specs.Frames.{framesOf, levelsFrom}
 use Rattle.logs.specs.Relied.{lastFrame, remarked}
 use Rattle.logs.specs.Readings.{Reading, equalFrames, readOf}
-use Rattle.logs.specs.Records.{Before, none, frame, Record, againAfter, markedAfter}
+use Rattle.logs.specs.Records.{Before, none, frame, Record, againAfter, markedAfter, markedBy}
 
 pub marked-length : (before : Before) (rs : List Reading) → length (markedAfter before rs) ≡ length rs
-unfolding markedAfter
+unfolding markedBy
 marked-length before [] = refl
 marked-length before (r ∷ rs) = ap suc (marked-length (frame r) rs)
 
@@ -23,7 +23,7 @@ marked-behind : (before : Before) (last : Reading) (rs : List Reading) (r : Read
     → markedAfter before (last ∷ rs ++ r ∷ later)
     ≡ markedAfter before (last ∷ rs)
     ++ remarked (againAfter (lastFrame (last ∷ rs)) r) (markedAfter none (r ∷ later))
-unfolding lastFrame markedAfter remarked
+unfolding lastFrame markedBy remarked
 marked-behind before last [] r later = refl
 marked-behind before last (s ∷ rs) r later =
     ap (λ (l : List Record). record { again = againAfter before last; reading = last } ∷ l)
@@ -32,19 +32,19 @@ marked-behind before last (s ∷ rs) r later =
 pub marked-cut : (rs : List Reading) (r : Reading) (later : List Reading)
     → markedAfter none (rs ++ r ∷ later)
     ≡ markedAfter none rs ++ remarked (againAfter (lastFrame rs) r) (markedAfter none (r ∷ later))
-unfolding lastFrame markedAfter remarked
+unfolding lastFrame markedBy remarked
 marked-cut [] r later = refl
 marked-cut (s ∷ rs) r later = marked-behind none s rs r later
 
 pub marked-first : (frames : List Reading) (r : Record) (rs : List Record) → markedAfter none frames ≡ r ∷ rs
     → r .again ≡ false
-unfolding markedAfter
+unfolding markedBy
 marked-first [] r rs e = cc
 marked-first (f ∷ frames) r rs e = cc
 
 pub marked-next : (before : Before) (frames : List Reading) (done : List Record) (one r : Record) (rs : List Record)
     → markedAfter before frames ≡ done ++ one ∷ r ∷ rs → r .again ≡ equalFrames (one .reading) (r .reading)
-unfolding markedAfter
+unfolding markedBy
 marked-next before [] [] one r rs e = cc
 marked-next before [] (d ∷ done) one r rs e = cc
 marked-next before (f ∷ []) [] one r rs e = cc
@@ -54,7 +54,7 @@ marked-next before (f ∷ frames) (d ∷ done) one r rs e = marked-next (frame f
 pub marked-place : (long : Bool) (before : Before) (frames : List (List ℕ)) (done : List Record) (r : Record)
     (rs : List Record) → markedAfter before (map (readOf long) frames) ≡ done ++ r ∷ rs
     → r .reading ≡ readOf long (getD frames (length done) [])
-unfolding markedAfter
+unfolding markedBy
 marked-place long before [] [] r rs e = cc
 marked-place long before [] (d ∷ done) r rs e = cc
 marked-place long before (f ∷ frames) [] r rs e = cc
@@ -65,7 +65,7 @@ marked-place long before (f ∷ frames) (d ∷ done) r rs e =
 module _ (long : Bool) (P : Reading → Type 0) (holds : (ws : List ℕ) → P (readOf long (levelsFrom ws))) where
   pub each-record : (slots : List ℕ) (before : Before) (done : List Record) (r : Record) (rs : List Record)
       → markedAfter before (map (readOf long) (framesOf slots)) ≡ done ++ r ∷ rs → P (r .reading)
-  unfolding framesOf markedAfter
+  unfolding framesOf markedBy
   each-record [] before [] r rs e = absurd (let z : _≡_ {A = ℕ} 0 1 = cc in omega arith)
   each-record [] before (d ∷ done) r rs e = absurd (let z : _≡_ {A = ℕ} 0 1 = cc in omega arith)
   each-record (w ∷ ws) before done r rs e =

@@ -12,7 +12,8 @@ use Rattle.line.specs.Numbers.{slotStart}
 use Rattle.logs.specs.Frames.{framesOf, levelsFrom}
 use Rattle.logs.specs.Relied.{Fresh, Relied}
 use Rattle.logs.specs.Readings.{readOf}
-use Rattle.logs.specs.Records.{Before, none, frame, Record, againAfter, markedAfter, recordsOf, wordsOf}
+use Rattle.logs.specs.Records.{Before, none, frame, Record, againAfter, markedAfter, markedBy, recordsBy}
+use Rattle.logs.specs.Records.{recordsOf, wordsOf}
 use Rattle.logs.proofs.Again.{equal-exactly}
 use Rattle.logs.proofs.Apart.{in-range, taken-apart}
 use Rattle.logs.proofs.Attempts.{data-says}
@@ -20,6 +21,7 @@ use Rattle.logs.proofs.Frames.{all-slots, frames-counted, frames-cut, l
 use Rattle.logs.proofs.Frames.{no-slot, short-list}
 use Rattle.logs.proofs.Headers.{attempt-says, cut, header-ends, header-says, sent}
 use Rattle.logs.proofs.Marks.{each-record, marked-cut, marked-first, marked-length, marked-next, marked-place}
+use Rattle.logs.proofs.Narrower.{narrower}
 use Rattle.logs.proofs.Readings.{Bounded, reading-bounded, record-fits}
 
 -- how many words the records of frames have
@@ -29,7 +31,7 @@ wordCount long before frames = length (wordsOf (markedAfter before (map (readOf 
 -- they are no more than the list's, even with the levels at its front, which may be those of a frame before it
 words-fit : (long : Bool) (slots : List ℕ) (before : Before)
     → length (levelsFrom slots) + wordCount long before (framesOf slots) ≤ length slots
-unfolding framesOf levelsFrom markedAfter wordsOf
+unfolding framesOf levelsFrom markedBy wordsOf
 words-fit long [] before = omega arith
 words-fit long (w ∷ ws) before = by (ltb w slotStart) (eqb w slotStart) refl refl (words-fit long ws)
   where
@@ -46,7 +48,7 @@ words-fit long (w ∷ ws) before = by (ltb w slotStart) (eqb w slotStart) refl r
     by false false l s later = omega (arith, later before)
 
 fresh : (long : Bool) → Fresh long
-unfolding framesOf recordsOf
+unfolding framesOf recordsBy
 fresh long earlier later =
     rw (frames-cut earlier later, map-append)
     (marked-cut (map (readOf long) (framesOf earlier)) (readOf long (levelsFrom later))
@@ -55,12 +57,12 @@ fresh long earlier later =
 -- of every record, its numbers and its fields
 bounded : (long : Bool) (slots : List ℕ) (done : List Record) (r : Record) (rs : List Record)
     → recordsOf long slots ≡ done ++ r ∷ rs → Bounded (r .reading)
-unfolding recordsOf
+unfolding recordsBy
 bounded long slots =
     each-record long Bounded (λ ws. reading-bounded long (levelsFrom ws) (levels-low ws)) slots none
 
 pub relied : (long : Bool) → Relied long
-unfolding recordsOf wordsOf
+unfolding recordsBy wordsOf
 relied long = record {
   short-list = short-list;
   no-slot = no-slot;
@@ -76,6 +78,7 @@ relied long = record {
   again = λ slots done before r rs e.
       rw (marked-next none (map (readOf long) (framesOf slots)) done before r rs e)
       (equal-exactly (before .reading) (r .reading));
+  narrower = narrower long;
   sent = sent long;
   cut = cut long;
   attempt = attempt-says;

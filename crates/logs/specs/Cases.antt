@@ -1,4 +1,5 @@
--- Logs that are computed: what ticket 1's text says of each, worked out from the text and the layout of a record.
+-- Logs that are computed: what the texts of tickets 1 and 11 say of each, worked out from them and the layout of a
+-- record.
 use mathlib.Core.Bool.{true}
 use mathlib.Core.Path.{_≡_, refl}
 use mathlib.Core.List.{List, [], _∷_, _++_}
@@ -12,8 +13,8 @@ use Rattle.logs.specs.Data.{textFrom}
 use Rattle.logs.specs.Fields.{endIn, givenIn, numberFrom}
 use Rattle.logs.specs.Frames.{framesOf, levelsFrom, strayIn}
 use Rattle.logs.specs.Log.{endOf, framesAfter, longIn, numberOf, writtenOf}
-use Rattle.logs.specs.Readings.{dataOf, equalFrames, readOf}
-use Rattle.logs.specs.Records.{firstWord, markedAfter, recordWords, recordsOf, wordsBehind, wordsOf}
+use Rattle.logs.specs.Readings.{dataOf, equalFrames, equalSaid, readOf}
+use Rattle.logs.specs.Records.{firstWord, markedBy, recordWords, recordsBy, wordsBehind, wordsOf}
 
 -- ---- frames as slot words
 
@@ -215,6 +216,10 @@ limitCases =
 abbrev pub one : ℕ → List ℕ
 one byte = sized 1 ++ sent byte ack
 
+-- and one whose byte took a second attempt
+abbrev pub late : ℕ → List ℕ
+late byte = sized 1 ++ sent byte nak ++ sent byte ack
+
 unfoldable pub againCases : List Case
 againCases =
     -- the first never is; each like the one before it is, and none is for an earlier one
@@ -222,20 +227,35 @@ againCases =
     ∷ (read 0 (one 0x7B ++ one 0x7B ++ one 0x80 ++ one 0x7B)
     gives 0 ∷ 4 ∷ individual endWhole 1 1 0 ∷ parties ∷ 0x17B ∷ again (individual endWhole 1 1 0) ∷ parties ∷ 0x17B
     ∷ individual endWhole 1 1 0 ∷ parties ∷ 0x180 ∷ individual endWhole 1 1 0 ∷ parties ∷ 0x17B ∷ [])
-    -- P, A and attempts do not count
-    ∷ (read 0 (one 0x7B ++ sized 1 ++ sent 0x7B nak ++ missent 0x7B ack)
-    gives 0 ∷ 2 ∷ individual endWhole 1 1 0 ∷ parties ∷ 0x17B ∷ again (individual endWhole 1 1 0) ∷ parties ∷ 0x27B
+    -- P and A do not count, nor what a byte was in an attempt that got NAK
+    ∷ (read 0 (late 0x7B ++ sized 1 ++ missent 0x80 nak ++ missent 0x7B ack)
+    gives 0 ∷ 2 ∷ individual endWhole 1 1 0 ∷ parties ∷ 0x27B ∷ again (individual endWhole 1 1 0) ∷ parties ∷ 0x27B
     ∷ [])
     ∷ (read 0 (spread 1 ++ sent 0x7B nak ++ opened 0 ack 1 ++ sent 0x7B ack)
     gives 0 ∷ 2 ∷ broadcast endWhole 1 1 0 ∷ parties ∷ 0x17B ∷ again (broadcast endWhole 1 1 0) ∷ parties ∷ 0x17B
     ∷ [])
-    -- nor does the ending: short or broken off, NAK or broken off behind it
-    ∷ (read 0 (sized 2 ++ sent 0x7B ack ++ sized 2 ++ sent 0x7B ack ++ 0 ∷ [])
+    -- nor does the ending, or an attempt that is cut: short or broken off, NAK or broken off behind it
+    ∷ (read 0 (sized 2 ++ sent 0x7B ack ++ sized 2 ++ sent 0x7B ack ++ checked 8 0x80)
     gives 0 ∷ 2 ∷ individual endShort 2 1 0 ∷ parties ∷ 0x17B ∷ again (individual endBrokenData 2 1 0) ∷ parties
     ∷ 0x17B ∷ [])
     ∷ (read 0 (called 1 nak ++ called 1 ack) gives 0 ∷ 2 ∷ 0x22 ∷ parties ∷ again 0x28 ∷ parties ∷ [])
     ∷ (read 0 (told 1 ack ++ answered 8 0 nak ++ sized 0)
     gives 0 ∷ 2 ∷ individual endNakLength 256 0 0 ∷ parties ∷ again (individual endBrokenData 256 0 0) ∷ parties ∷ [])
+    -- the attempts of each byte count, not all of them together; those after the last, in all where there is none
+    ∷ (read 0 (one 0x7B ++ late 0x7B ++ late 0x7B)
+    gives 0 ∷ 3 ∷ individual endWhole 1 1 0 ∷ parties ∷ 0x17B ∷ individual endWhole 1 1 0 ∷ parties ∷ 0x27B
+    ∷ again (individual endWhole 1 1 0) ∷ parties ∷ 0x27B ∷ [])
+    ∷ (read 0 (sized 2 ++ sent 0x7B nak ++ sent 0x7B ack ++ sent 0x80 ack ++ sized 2 ++ sent 0x7B ack ++ sent 0x80 nak
+    ++ sent 0x80 ack)
+    gives 0 ∷ 2 ∷ individual endWhole 2 2 0 ∷ parties ∷ 0x27B ∷ 0x180 ∷ individual endWhole 2 2 0 ∷ parties ∷ 0x17B
+    ∷ 0x280 ∷ [])
+    ∷ (read 0 (sized 2 ++ sent 0x7B ack ++ sized 2 ++ sent 0x7B ack ++ sent 0x80 nak)
+    gives 0 ∷ 2 ∷ individual endShort 2 1 0 ∷ parties ∷ 0x17B ∷ individual endShort 2 1 1 ∷ parties ∷ 0x17B ∷ [])
+    ∷ (read 0 (sized 2 ++ sent 0x7B nak ++ sized 2 ++ times 2 (sent 0x7B nak))
+    gives 0 ∷ 2 ∷ individual endShort 2 0 1 ∷ parties ∷ individual endShort 2 0 2 ∷ parties ∷ [])
+    -- a bad byte of a broadcast is an attempt, too
+    ∷ (read 0 (spread 2 ++ missent 0x80 nak ++ sent 0x7B nak ++ spread 2 ++ sent 0x7B nak ++ missent 0x80 nak)
+    gives 0 ∷ 2 ∷ broadcast endShort 2 1 0 ∷ parties ∷ 0x27B ∷ broadcast endShort 2 1 1 ∷ parties ∷ 0x17B ∷ [])
     -- a field that is not given is none that is 0: the bit, the master address, the slave address
     ∷ (read 0 (slotStart ∷ slotStart ∷ 0 ∷ []) gives 0 ∷ 2 ∷ 5 ∷ 6 ∷ [])
     ∷ (read 0 (slotStart ∷ 0 ∷ slotStart ∷ 0 ∷ checked 12 0) gives 0 ∷ 2 ∷ 6 ∷ 7 ∷ 0 ∷ [])
@@ -277,5 +297,5 @@ listCases =
 pub log-cases : allGiven (endCases ++ dataCases ++ limitCases ++ againCases ++ listCases) ≡ true
 unfolding allGiven endCases dataCases limitCases againCases listCases ones onesIn levelOf levelsOf parityHolds parityOf
     textFrom endIn givenIn numberFrom framesOf levelsFrom strayIn endOf framesAfter numberOf writtenOf dataOf readOf
-    equalFrames firstWord markedAfter recordWords recordsOf wordsBehind wordsOf
+    equalFrames equalSaid firstWord markedBy recordWords recordsBy wordsBehind wordsOf
 log-cases = refl

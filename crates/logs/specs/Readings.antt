@@ -1,5 +1,7 @@
 -- Ticket 1: what is read of one frame, and "A frame is marked "again" exactly if the same fields are given in it as in
--- the frame before, and they and the ACKed bytes are equal."
+-- the frame before, and they and the ACKed bytes are equal." Ticket 11: "Two frames are now equal exactly if they were
+-- and the numbers of complete attempts up to each ACKed byte, from the one before, and after the last (or in all, where
+-- there is none) are equal as well."
 use mathlib.Core.Bool.{Bool, _&&_}
 use mathlib.Core.List.{List, [], map}
 use Prim.Native.Nat.{ℕ}
@@ -36,6 +38,10 @@ lengthOf r = getD (r .given) 4 0
 abbrev pub bytesIn : Reading → List ℕ
 bytesIn r = map (λ (a : Acked). a .byte) (r .text .acked)
 
+-- the attempts that each of them took
+abbrev pub tookIn : Reading → List ℕ
+tookIn r = map (λ (a : Acked). a .attempts) (r .text .acked)
+
 -- the data of a frame with these fields: a frame that ended in its header, or just before its data, has none
 unfoldable pub dataOf : Bool → List ℕ → List ℕ → Text
 dataOf long given levels =
@@ -49,6 +55,10 @@ unfoldable pub readOf : Bool → List ℕ → Reading
 readOf long levels =
     record { given = givenIn header levels; text = dataOf long (givenIn header levels) levels }
 
--- whether a frame says again what another one said
+-- whether two frames were equal by ticket 1
+unfoldable pub equalSaid : Reading → Reading → Bool
+equalSaid r s = same (r .given) (s .given) && same (bytesIn r) (bytesIn s)
+
+-- and whether they are by ticket 11
 unfoldable pub equalFrames : Reading → Reading → Bool
-equalFrames r s = same (r .given) (s .given) && same (bytesIn r) (bytesIn s)
+equalFrames r s = equalSaid r s && same (tookIn r) (tookIn s) && eqb (r .text .unacked) (s .text .unacked)

@@ -21,18 +21,30 @@ pub data Before : Type 0 where
   none : Before
   frame : Reading → Before
 
-abbrev pub againAfter : Before → Reading → Bool
-againAfter none r = false
-againAfter (frame b) r = equalFrames b r
+-- the mark of a frame, by what it is for two frames to be equal
+abbrev pub againBy : (Reading → Reading → Bool) → Before → Reading → Bool
+againBy equal none r = false
+againBy equal (frame b) r = equal b r
 
 -- each frame with its mark
-unfoldable pub markedAfter : Before → List Reading → List Record
-markedAfter before [] = []
-markedAfter before (r ∷ rs) = record { again = againAfter before r; reading = r } ∷ markedAfter (frame r) rs
+unfoldable pub markedBy : (Reading → Reading → Bool) → Before → List Reading → List Record
+markedBy equal before [] = []
+markedBy equal before (r ∷ rs) =
+    record { again = againBy equal before r; reading = r } ∷ markedBy equal (frame r) rs
 
 -- the records of a list of slots
-unfoldable pub recordsOf : Bool → List ℕ → List Record
-recordsOf long slots = markedAfter none (map (readOf long) (framesOf slots))
+unfoldable pub recordsBy : (Reading → Reading → Bool) → Bool → List ℕ → List Record
+recordsBy equal long slots = markedBy equal none (map (readOf long) (framesOf slots))
+
+-- the same by what it is now
+abbrev pub againAfter : Before → Reading → Bool
+againAfter = againBy equalFrames
+
+abbrev pub markedAfter : Before → List Reading → List Record
+markedAfter = markedBy equalFrames
+
+abbrev pub recordsOf : Bool → List ℕ → List Record
+recordsOf = recordsBy equalFrames
 
 unfoldable pub firstWord : Record → ℕ
 firstWord r =

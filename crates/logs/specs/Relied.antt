@@ -1,6 +1,6 @@
--- What a user relies on, of every log: laws of the definitions before, told in the words of ticket 1 and by document
--- 01's order of slots, so that a definition that says something else is refused. Bits, fields and levels are defined
--- here again: what the laws speak of is then in one file, which is what a fingerprint takes in.
+-- What a user relies on, of every log: laws of the definitions before, told in the words of tickets 1 and 11 and by
+-- document 01's order of slots, so that a definition that says something else is refused. Bits, fields and levels are
+-- defined here again: what the laws speak of is then in one file, which is what a fingerprint takes in.
 use mathlib.Core.Bool.{Bool, true, false, _&&_, _||_}
 use mathlib.Core.Path.{_≡_}
 use mathlib.Core.List.{List, [], _∷_, _++_, map}
@@ -15,9 +15,9 @@ use Rattle.logs.specs.declared.LogRead.the-variants.{Frames, ShortList, 
 use Rattle.logs.specs.Frames.{framesOf, levelsFrom}
 use Rattle.logs.specs.Data.{Acked, byteIn, counts, noByte}
 use Rattle.logs.specs.Log.{endOf}
-use Rattle.logs.specs.Readings.{Reading, readOf}
-use Rattle.logs.specs.Records.{Before, Record, againAfter, byteWord, firstWord, frame, none, recordsOf}
-use Rattle.logs.specs.Records.{recordWords, secondWord, wordsOf}
+use Rattle.logs.specs.Readings.{Reading, equalSaid, readOf}
+use Rattle.logs.specs.Records.{Before, Record, againAfter, byteWord, firstWord, frame, none, recordsBy}
+use Rattle.logs.specs.Records.{recordsOf, recordWords, secondWord, wordsOf}
 
 -- how many words of a list are starts
 unfoldable pub startsIn : List ℕ → ℕ
@@ -43,17 +43,49 @@ Fresh long =
     ++ remarked (againAfter (lastFrame (map (readOf long) (framesOf earlier))) (readOf long (levelsFrom later)))
     (recordsOf long (slotStart ∷ later))
 
--- "the same fields are given in it as in the frame before, and they and the ACKed bytes are equal"
-pub record SaysAgain (before r : Reading) : Type 0 where
+-- ticket 1: "the same fields are given in it as in the frame before, and they and the ACKed bytes are equal"
+pub record SaysSame (before r : Reading) : Type 0 where
   pub fields : length (r .given) ≡ length (before .given)
   pub values : (i : ℕ) → getD (r .given) i 0 ≡ getD (before .given) i 0
   pub as-many : length (r .text .acked) ≡ length (before .text .acked)
   pub bytes : (i : ℕ) → getD (r .text .acked) i noByte .byte ≡ getD (before .text .acked) i noByte .byte
 
+-- ticket 11: "the numbers of complete attempts up to each ACKed byte, from the one before, and after the last (or in
+-- all, where there is none) are equal as well"
+pub record TookSame (before r : Reading) : Type 0 where
+  pub each : (i : ℕ) → getD (r .text .acked) i noByte .attempts ≡ getD (before .text .acked) i noByte .attempts
+  pub after : r .text .unacked ≡ before .text .unacked
+
+-- what "again" means
+pub record SaysAgain (before r : Reading) : Type 0 where
+  pub said : SaysSame before r
+  pub took : TookSame before r
+
 -- a mark is set exactly if something holds
 pub record Exactly (mark : Bool) (Holds : Type 0) : Type 0 where
   pub only : mark ≡ true → Holds
   pub always : Holds → mark ≡ true
+
+-- the mark at a place of some records, none past the last, and the frame there in a list of slots
+abbrev pub markAt : List Record → ℕ → Bool
+markAt records i = getD (map (λ (r : Record). r .again) records) i false
+
+abbrev pub frameAt : Bool → List ℕ → ℕ → Reading
+frameAt long slots i = readOf long (getD (framesOf slots) i [])
+
+-- a list's records beside those that ticket 1 gave it: the same frames, with marks that say what it says
+pub record Narrower (long : Bool) (slots : List ℕ) : Type 0 where
+  pub readings : map (λ (r : Record). r .reading) (recordsOf long slots)
+      ≡ map (λ (r : Record). r .reading) (recordsBy equalSaid long slots)
+  pub old-first : markAt (recordsBy equalSaid long slots) 0 ≡ false
+  pub old-again : (i : ℕ) → suc i < startsIn slots
+      → Exactly (markAt (recordsBy equalSaid long slots) (suc i))
+      (SaysSame (frameAt long slots i) (frameAt long slots (suc i)))
+  -- "Each mark given under the new meaning was given under the old, and one is lost only where these numbers differ"
+  pub given : (i : ℕ) → markAt (recordsOf long slots) i ≡ true → markAt (recordsBy equalSaid long slots) i ≡ true
+  pub lost : (i : ℕ) → markAt (recordsBy equalSaid long slots) (suc i) ≡ true
+      → markAt (recordsOf long slots) (suc i) ≡ false
+      → TookSame (frameAt long slots i) (frameAt long slots (suc i)) → ⊥
 
 -- a field of a frame: broadcast bit, master address, slave address, control, length; "else it is 0"
 abbrev pub fieldIn : ℕ → Reading → ℕ
@@ -238,6 +270,7 @@ pub record Relied (long : Bool) : Type 0 where
   pub again : (slots : List ℕ) (done : List Record) (before r : Record) (rs : List Record)
       → recordsOf long slots ≡ done ++ before ∷ r ∷ rs
       → Exactly (r .again) (SaysAgain (before .reading) (r .reading))
+  pub narrower : (slots : List ℕ) → Narrower long slots
   -- the fields given say what was sent, whatever P and A are; of a frame that is cut, what the longer one says
   pub sent : (bit master slave control byte : ℕ) (p a : ℕ → ℕ) (more : List ℕ) → master < 0x1000 → slave < 0x1000
       → control < 0x10 → byte < 0x100

@@ -1,20 +1,21 @@
 -- The frame before against the frame at hand: the code's comparison is the one of the readings.
 use mathlib.Core.Bool.{Bool, true, false, _&&_}
 use mathlib.Core.Path.{_≡_, refl, sym, ap, ap₂, _∙_}
-use mathlib.Core.List.{List, _∷_, map}
+use mathlib.Core.List.{List, [], _∷_, map}
 use Prim.Native.Nat.{ℕ, zero, suc, _+_, _*_, _-_, _/_, _%_, _<_, _≤_}
 use native.Mathlib.Nat.{add-zero}
 use native.Mathlib.Omega.{arith}
 use borrow.Author.Tests.{eq-eqb, eqb-true, ne-eqb}
 use lib.Dec.{eqb}
-use lib.ListN.{List·getD-eq-default, getD, length, length-map, take}
+use lib.ListN.{List·getD-eq-default, drop, getD, length, take}
 use lib.Seq.{ext-getD}
 use Rattle.line.proofs.Either.{both}
 use Rattle.line.specs.Cases.{same}
-use Rattle.logs.proofs.Again.{same-lists, same-self}
-use Rattle.logs.specs.Data.{Acked}
-use Rattle.logs.specs.Readings.{Reading, bitIn, bytesIn, controlIn, equalFrames, lengthOf, masterIn, slaveIn}
-use Rattle.logs.specs.Records.{secondWord}
+use Rattle.logs.proofs.Again.{attemptsOf, byteOf, same-lists, same-self}
+use Rattle.logs.specs.Data.{Acked, noByte}
+use Rattle.logs.specs.Readings.{Reading, bitIn, bytesIn, controlIn, equalFrames, equalSaid, lengthOf, masterIn}
+use Rattle.logs.specs.Readings.{slaveIn, tookIn}
+use Rattle.logs.specs.Records.{byteWord, secondWord}
 use Rattle.reader.proofs.Parts.{cut}
 use Rattle.reader.specs.declared.entry.Entry.{Entry}
 use Rattle.reader.specs.Entries.{Stands, ackedIn, alikeEntries, alikeFields, bytesFrom, saidOf}
@@ -35,27 +36,26 @@ compared-none records a b count =
 -- the bytes from a place on: the one there, and those behind it
 next-byte : (records : List ℕ) (a count i : ℕ) → i < count → a + count ≤ length records
     → bytesFrom records (a + i) (count - i)
-    ≡ getD records (a + i) 0 % 0x100 ∷ bytesFrom records (a + (i + 1)) (count - (i + 1))
+    ≡ getD records (a + i) 0 ∷ bytesFrom records (a + (i + 1)) (count - (i + 1))
 next-byte records a count i more inside =
     let one : count - i ≡ suc (count - (i + 1)) = omega arith in
     let next : a + i + 1 ≡ a + (i + 1) = omega arith in
     ap (λ (n : ℕ). bytesFrom records (a + i) n) one
-    ∙ ap (λ (l : List ℕ). map (λ (word : ℕ). word % 0x100) (take (suc (count - (i + 1))) l))
-    (cut records (a + i) (omega arith))
-    ∙ ap (λ (n : ℕ). getD records (a + i) 0 % 0x100 ∷ bytesFrom records n (count - (i + 1))) next
+    ∙ ap (take (suc (count - (i + 1)))) (cut records (a + i) (omega arith))
+    ∙ ap (λ (n : ℕ). getD records (a + i) 0 ∷ bytesFrom records n (count - (i + 1))) next
 
 module _ {records : List ℕ} {a b count i : ℕ} (c : Compared records a b count i) (more : i < count)
     (first : a + count ≤ length records) (second : b + count ≤ length records) where
   step : same (bytesFrom records a count) (bytesFrom records b count)
-      ≡ (eqb (getD records (a + i) 0 % 0x100) (getD records (b + i) 0 % 0x100)
+      ≡ (eqb (getD records (a + i) 0) (getD records (b + i) 0)
       && same (bytesFrom records (a + (i + 1)) (count - (i + 1))) (bytesFrom records (b + (i + 1)) (count - (i + 1))))
   step = c .rest ∙ ap₂ same (next-byte records a count i more first) (next-byte records b count i more second)
 
-  pub compared-one : getD records (a + i) 0 % 0x100 ≡ getD records (b + i) 0 % 0x100
+  pub compared-one : getD records (a + i) 0 ≡ getD records (b + i) 0
       → Compared records a b count (i + 1)
   compared-one alike = record { rest = step ∙ rw (eq-eqb _ _ alike); within = omega arith }
 
-  pub compared-here : (getD records (a + i) 0 % 0x100 ≡ getD records (b + i) 0 % 0x100 → ⊥)
+  pub compared-here : (getD records (a + i) 0 ≡ getD records (b + i) 0 → ⊥)
       → false ≡ same (bytesFrom records a count) (bytesFrom records b count)
   compared-here unlike = sym (step ∙ rw (ne-eqb _ _ unlike))
 
@@ -87,9 +87,9 @@ five xs ys few fewer a b c d e (suc (suc (suc (suc (suc i))))) =
     List·getD-eq-default xs 0 (omega arith) ∙ sym (List·getD-eq-default ys 0 (omega arith))
 
 -- the numbers of a first word, each taken out again
-module _ (b c l a : ℕ) where
+module _ (b c l a u : ℕ) where
   abbrev word : ℕ
-  word = b * 0x20 + c * 0x40 + l * 0x400 + a * 0x8_0000
+  word = b * 0x20 + c * 0x40 + l * 0x400 + a * 0x8_0000 + u * 0x200_0000
 
   bit-out : b < 2 → word / 0x20 % 2 ≡ b
   bit-out low = omega arith
@@ -100,18 +100,49 @@ module _ (b c l a : ℕ) where
   bytes-out : b < 2 → c < 0x10 → l ≤ 0x100 → word / 0x400 % 0x200 ≡ l
   bytes-out low lower most = omega arith
 
-first-alike : (b c l a b₁ c₁ l₁ a₁ : ℕ) → b < 2 → c < 0x10 → l ≤ 0x100 → b₁ < 2 → c₁ < 0x10 → l₁ ≤ 0x100
-    → word b c l a ≡ word b₁ c₁ l₁ a₁
-    → (b ≡ b₁) × (c ≡ c₁) × (l ≡ l₁)
-first-alike b c l a b₁ c₁ l₁ a₁ hb hc hl hb₁ hc₁ hl₁ e = (
-  sym (bit-out b c l a hb) ∙ ap (λ (w : ℕ). w / 0x20 % 2) e ∙ bit-out b₁ c₁ l₁ a₁ hb₁,
-  sym (control-out b c l a hb hc) ∙ ap (λ (w : ℕ). w / 0x40 % 0x10) e ∙ control-out b₁ c₁ l₁ a₁ hb₁ hc₁,
-  sym (bytes-out b c l a hb hc hl) ∙ ap (λ (w : ℕ). w / 0x400 % 0x200) e ∙ bytes-out b₁ c₁ l₁ a₁ hb₁ hc₁ hl₁,
+  unacked-out : b < 2 → c < 0x10 → l ≤ 0x100 → a ≤ 32 → word / 0x200_0000 ≡ u
+  unacked-out low lower most few = omega arith
+
+first-alike : (b c l a u b₁ c₁ l₁ a₁ u₁ : ℕ) → b < 2 → c < 0x10 → l ≤ 0x100 → a ≤ 32 → b₁ < 2 → c₁ < 0x10
+    → l₁ ≤ 0x100 → a₁ ≤ 32 → word b c l a u ≡ word b₁ c₁ l₁ a₁ u₁
+    → (b ≡ b₁) × (c ≡ c₁) × (l ≡ l₁) × (u ≡ u₁)
+first-alike b c l a u b₁ c₁ l₁ a₁ u₁ hb hc hl ha hb₁ hc₁ hl₁ ha₁ e = (
+  sym (bit-out b c l a u hb) ∙ ap (λ (w : ℕ). w / 0x20 % 2) e ∙ bit-out b₁ c₁ l₁ a₁ u₁ hb₁,
+  sym (control-out b c l a u hb hc) ∙ ap (λ (w : ℕ). w / 0x40 % 0x10) e ∙ control-out b₁ c₁ l₁ a₁ u₁ hb₁ hc₁,
+  sym (bytes-out b c l a u hb hc hl) ∙ ap (λ (w : ℕ). w / 0x400 % 0x200) e
+      ∙ bytes-out b₁ c₁ l₁ a₁ u₁ hb₁ hc₁ hl₁,
+  sym (unacked-out b c l a u hb hc hl ha) ∙ ap (λ (w : ℕ). w / 0x200_0000) e
+      ∙ unacked-out b₁ c₁ l₁ a₁ u₁ hb₁ hc₁ hl₁ ha₁,
 )
 
 second-alike : (m s m₁ s₁ : ℕ) → m < 0x1000 → m₁ < 0x1000 → m + s * 0x1000 ≡ m₁ + s₁ * 0x1000
     → (m ≡ m₁) × (s ≡ s₁)
 second-alike m s m₁ s₁ hm hm₁ e = (omega arith, omega arith)
+
+-- ACKed bytes are alike whose words are, or whose bytes and attempts are
+abbrev acked-with : (byte attempts : ℕ) → Acked
+acked-with byte attempts = record { byte = byte; attempts = attempts }
+
+words-apart : (xs ys : List Acked) → ((i : ℕ) → getD xs i noByte .byte < 0x100)
+    → ((i : ℕ) → getD ys i noByte .byte < 0x100) → map byteWord xs ≡ map byteWord ys → xs ≡ ys
+words-apart [] [] low lower e = refl
+words-apart [] (y ∷ ys) low lower e = cc
+words-apart (x ∷ xs) [] low lower e = cc
+words-apart (x ∷ xs) (y ∷ ys) low lower e =
+    let first = ap (λ (l : List ℕ). getD l 0 0) e in
+    let byte : x .byte ≡ y .byte = omega (arith, first, low 0, lower 0) in
+    let attempts : x .attempts ≡ y .attempts = omega (arith, first, low 0, lower 0) in
+    ap₂ _∷_ (ap₂ acked-with byte attempts)
+    (words-apart xs ys (λ i. low (suc i)) (λ i. lower (suc i)) (ap (drop 1) e))
+
+parts-alike : (xs ys : List Acked) → map byteOf xs ≡ map byteOf ys → map attemptsOf xs ≡ map attemptsOf ys → xs ≡ ys
+parts-alike [] [] bytes attempts = refl
+parts-alike [] (y ∷ ys) bytes attempts = cc
+parts-alike (x ∷ xs) [] bytes attempts = cc
+parts-alike (x ∷ xs) (y ∷ ys) bytes attempts =
+    ap₂ _∷_
+    (ap₂ acked-with (ap (λ (l : List ℕ). getD l 0 0) bytes) (ap (λ (l : List ℕ). getD l 0 0) attempts))
+    (parts-alike xs ys (ap (drop 1) bytes) (ap (drop 1) attempts))
 
 -- entries with alike fields say the same of them
 pub said-alike : (a b : Entry) → alikeFields a b ≡ true → a .said ≡ b .said
@@ -121,53 +152,62 @@ said-alike a b test =
     eqb-true (a .said) (b .said) said
 
 module _ {r s : Reading} {a b : Entry} {records : List ℕ} (p : Stands r a records) (q : Stands s b records) where
+  said-told : saidOf r ≡ saidOf s
+      → (bitIn r ≡ bitIn s) × (controlIn r ≡ controlIn s) × (lengthOf r ≡ lengthOf s)
+      × (r .text .unacked ≡ s .text .unacked)
+  said-told =
+      let v = p .values in
+      let w = q .values in
+      first-alike (bitIn r) (controlIn r) (lengthOf r) _ _ (bitIn s) (controlIn s) (lengthOf s) _ _
+      (v .bit-low) (v .control-low) (v .bytes-most) (p .acked-most) (w .bit-low) (w .control-low) (w .bytes-most)
+      (q .acked-most)
+
   given-told : length (s .given) ≡ length (r .given) → saidOf r ≡ saidOf s → secondWord r ≡ secondWord s
       → s .given ≡ r .given
   given-told many said addresses =
-      let v = p .values in
-      let w = q .values in
-      let (bit, control, bytes) = first-alike (bitIn r) (controlIn r) (lengthOf r) _ (bitIn s) (controlIn s)
-      (lengthOf s) _ (v .bit-low) (v .control-low) (v .bytes-most) (w .bit-low) (w .control-low) (w .bytes-most) said in
-      let (master, slave) = second-alike (masterIn r) (slaveIn r) (masterIn s) (slaveIn s) (v .master-low)
-      (w .master-low) addresses in
+      let (bit, control, bytes, _) = said-told said in
+      let (master, slave) = second-alike (masterIn r) (slaveIn r) (masterIn s) (slaveIn s) (p .values .master-low)
+      (q .values .master-low) addresses in
       ext-getD 0 (s .given) (r .given) many
       (λ i h. sym (five (r .given) (s .given) (p .few) (q .few) bit master slave control bytes i))
 
   to : alikeEntries records a b ≡ true → equalFrames r s ≡ true
-  unfolding alikeEntries equalFrames
+  unfolding alikeEntries equalFrames equalSaid
   to test =
       let (fields, bytes) = both (alikeFields a b) _ test in
       let (words, addresses) = both (eqb (a .given) (b .given) && eqb (a .said) (b .said)) _ fields in
       let (many, _) = both (eqb (a .given) (b .given)) (eqb (a .said) (b .said)) words in
       let said = said-alike a b fields in
-      let given = given-told (sym (q .given) ∙ sym (eqb-true _ _ many) ∙ p .given) (sym (p .said) ∙ said ∙ q .said)
+      let told = sym (p .said) ∙ said ∙ q .said in
+      let given = given-told (sym (q .given) ∙ sym (eqb-true _ _ many) ∙ p .given) told
       (sym (p .addresses) ∙ eqb-true (a .addresses) (b .addresses) addresses ∙ q .addresses) in
-      let text : bytesIn s ≡ bytesIn r =
-      sym (q .bytes) ∙ sym (same-lists _ _ bytes)
-      ∙ ap (λ (n : ℕ). bytesFrom records (a .bytes) (n / 0x8_0000)) (sym said) ∙ p .bytes in
-      rw (given, text, same-self (r .given)) (same-self (bytesIn r))
+      let acked : s .text .acked ≡ r .text .acked =
+      words-apart (s .text .acked) (r .text .acked) (q .bytes-low) (p .bytes-low)
+      (sym (q .bytes) ∙ sym (same-lists _ _ bytes)
+      ∙ ap (λ (n : ℕ). bytesFrom records (a .bytes) (n / 0x8_0000 % 0x40)) (sym said) ∙ p .bytes) in
+      let after = said-told told .3 in
+      rw (given, acked, ← after, same-self (r .given), same-self (bytesIn r), same-self (tookIn r))
+      (eq-eqb (r .text .unacked) (r .text .unacked) refl)
 
   back : equalFrames r s ≡ true → alikeEntries records a b ≡ true
-  unfolding alikeEntries equalFrames
+  unfolding alikeEntries equalFrames equalSaid
   back equal =
-      let (fields, bytes) = both (same (r .given) (s .given)) _ equal in
+      let (lists, after) = both (equalSaid r s && same (tookIn r) (tookIn s)) _ equal in
+      let (old, took) = both (equalSaid r s) _ lists in
+      let (fields, bytes) = both (same (r .given) (s .given)) _ old in
       let given = same-lists (r .given) (s .given) fields in
-      let text = same-lists (bytesIn r) (bytesIn s) bytes in
-      let as-many : length (r .text .acked) ≡ length (s .text .acked) =
-      sym (length-map (r .text .acked) (λ (x : Acked). x .byte)) ∙ ap length text
-      ∙ length-map (s .text .acked) (λ (x : Acked). x .byte)
-      in
+      let acked = parts-alike (r .text .acked) (s .text .acked) (same-lists (bytesIn r) (bytesIn s) bytes)
+      (same-lists (tookIn r) (tookIn s) took) in
+      let unacked = eqb-true (r .text .unacked) (s .text .unacked) after in
       let many : a .given ≡ b .given = p .given ∙ ap length given ∙ sym (q .given) in
-      let said : a .said ≡ b .said =
-      p .said
-      ∙ ap₂ (λ (l : List ℕ) (n : ℕ). getD l 0 0 * 0x20 + getD l 3 0 * 0x40 + getD l 4 0 * 0x400 + n * 0x8_0000) given
-      as-many ∙ sym (q .said)
-      in
+      let told : saidOf r ≡ saidOf s = rw (given, acked, unacked) in
+      let said : a .said ≡ b .said = p .said ∙ told ∙ sym (q .said) in
       let addresses : a .addresses ≡ b .addresses =
       p .addresses ∙ ap (λ (l : List ℕ). getD l 1 0 + getD l 2 0 * 0x1000) given ∙ sym (q .addresses)
       in
       let bytes : bytesFrom records (a .bytes) (ackedIn b) ≡ bytesFrom records (b .bytes) (ackedIn b) =
-      ap (λ (n : ℕ). bytesFrom records (a .bytes) (n / 0x8_0000)) (sym said) ∙ p .bytes ∙ text ∙ sym (q .bytes)
+      ap (λ (n : ℕ). bytesFrom records (a .bytes) (n / 0x8_0000 % 0x40)) (sym said) ∙ p .bytes
+      ∙ ap (map byteWord) acked ∙ sym (q .bytes)
       in
       rw (eq-eqb _ _ many, eq-eqb _ _ said, eq-eqb _ _ addresses, bytes)
       (same-self (bytesFrom records (b .bytes) (ackedIn b)))

@@ -15,7 +15,8 @@ use Rattle.logs.specs.declared.LogRead.the-variants.{Frames, NoSlot, ShortList}
 use Rattle.logs.specs.Frames.{Low, framesOf, strayIn}
 use Rattle.logs.specs.Log.{ReadLog, endOf, writtenOf}
 use Rattle.logs.specs.Readings.{readOf}
-use Rattle.logs.specs.Records.{Before, againAfter, frame, markedAfter, none, recordWords, recordsOf, wordsOf}
+use Rattle.logs.specs.Records.{Before, againAfter, frame, markedAfter, markedBy, none, recordWords, recordsBy}
+use Rattle.logs.specs.Records.{recordsOf, wordsOf}
 use Rattle.reader.proofs.Parts.{cut}
 use Rattle.reader.proofs.Pasting.{paste-behind, paste-end, paste-length}
 use Rattle.reader.proofs.Records.{recordOf}
@@ -61,7 +62,7 @@ pub record SoFar (long : Bool) (slots first records : List ℕ) (frames next : �
 pub so-far-none : (long : Bool) {slots first : List ℕ} {entry : Entry} {at : ℕ} → NextStart slots 0 at
     → (5 < entry .given) × (ackedIn entry ≡ 0) × (entry .bytes ≡ 0)
     → SoFar long slots first first 0 0 entry at
-unfolding recordsOf
+unfolding recordsBy
 so-far-none long {slots} {first} {entry} {at} start empty =
     record {
       before = none;
@@ -104,7 +105,7 @@ module _ {long : Bool} {slots first records : List ℕ} {frames next : ℕ} {ent
   words-there : wordsFrom long (s .before) slots at
       ≡ recordWords (recordOf long levels (againAfter (s .before) (readOf long levels)))
       ++ wordsFrom long (frame (readOf long levels)) slots end
-  unfolding wordsOf markedAfter
+  unfolding wordsOf markedBy
   words-there = ap (λ (ls : List (List ℕ)). wordsOf (markedAfter (s .before) (map (readOf long) ls))) frames-there
 
   pub next-ahead : {newer : Entry} {after : List ℕ}
@@ -145,7 +146,7 @@ pub so-far-all : {long : Bool} {slots first records : List ℕ} {frames next : �
     → SoFar long slots first records frames next entry at → length slots ≤ at → length slots ≤ length first
     → (frames ≡ length (framesOf slots))
     × (records ≡ wordsOf (recordsOf long slots) ++ drop (length (wordsOf (recordsOf long slots))) first)
-unfolding framesOf wordsOf markedAfter
+unfolding framesOf wordsOf markedBy
 so-far-all {long} {slots} {first} {records} {frames} {next} {entry} {at} s over room =
     let none : framesOf (drop at slots) ≡ [] = ap framesOf (drop-of-length-le slots {i = at} over) in
     let whole = wordsOf (recordsOf long slots) in

@@ -60,24 +60,15 @@ kept-before : (records piece : List ℕ) (at place count : ℕ) → place + coun
     → bytesFrom (pasted records at piece) place count ≡ bytesFrom records place count
 kept-before records piece at place count ahead room =
     let long = paste-length records piece at room in
-    ap (map (λ (word : ℕ). word % 0x100))
-    (part (pasted records at piece) place count (omega arith)
+    part (pasted records at piece) place count (omega arith)
     ∙ ap (drop place) (paste-before records piece at (place + count) ahead (omega arith))
-    ∙ sym (part records place count (omega arith)))
+    ∙ sym (part records place count (omega arith))
 
 -- bytes that begin at the end of a piece
 kept-behind : (records piece : List ℕ) (at count : ℕ) → at ≤ length records
     → bytesFrom (pasted records at piece) (at + length piece) count ≡ bytesFrom records (at + length piece) count
 kept-behind records piece at count inside =
-    ap (λ (l : List ℕ). map (λ (word : ℕ). word % 0x100) (take count l)) (paste-behind records piece at inside)
-
--- words of bytes without their attempts are the bytes
-bytes-low : (acked : List Acked) → ((i : ℕ) → getD acked i noByte .byte < 0x100)
-    → map (λ (word : ℕ). word % 0x100) (map byteWord acked) ≡ map (λ (a : Acked). a .byte) acked
-bytes-low [] low = refl
-bytes-low (a ∷ acked) low =
-    let first : byteWord a % 0x100 ≡ a .byte = omega (arith, low 0) in
-    ap₂ (λ (x : ℕ) (l : List ℕ). x ∷ l) first (bytes-low acked (λ i. low (suc i)))
+    ap (take count) (paste-behind records piece at inside)
 
 -- ---- put_record
 
@@ -160,15 +151,16 @@ module _ {long : Bool} {levels : List ℕ} {at : ℕ} {before : List ℕ} {head 
   unfolding readOf headOf
   said-is = ap (λ (e : Entry). e .said) entry-is
 
-  pub entry-fits : (head .fields < 0x8_0000) × (body .acked ≤ 32)
+  pub entry-fits : (head .fields < 0x8_0000) × (body .acked ≤ 32) × (body .unacked ≤ 32)
   unfolding readOf headOf
   entry-fits = (
     rw (p .is-head) (omega (arith, bounded .bit, bounded .control, bounded .bytes)),
     omega (arith, count, bounded .acked),
+    rw (written .told) (bounded .unacked),
   )
 
   acked-is : ackedIn entry ≡ body .acked
-  acked-is = omega (arith, entry-fits .0)
+  acked-is = omega (arith, entry-fits .0, entry-fits .1)
 
   front-long : (first : ℕ) → at + length (frontOf entry first) ≡ at + front
   front-long first = ap (λ (n : ℕ). at + n) (front-length entry first ∙ sym (p .is-front))
@@ -189,26 +181,19 @@ module _ {long : Bool} {levels : List ℕ} {at : ℕ} {before : List ℕ} {head 
   middle-long : length middle ≡ length before
   middle-long = ap length (written .written) ∙ paste-length before (byteWords long levels) (at + front) words-room
 
-  pub first-fits : (entry .said < 0x200_0000) × (body .unacked ≤ 32) × (body .ending ≤ 10)
-  first-fits = (
-    omega (arith, entry-fits .0, entry-fits .1),
-    rw (written .told) (bounded .unacked),
-    rw (written .told) (bounded .ending),
-  )
+  pub first-fits : (entry .said < 0x8000_0000) × (body .ending ≤ 10)
+  first-fits = (omega (arith, entry-fits .0, entry-fits .1, entry-fits .2), rw (written .told) (bounded .ending))
 
   pub front-fits : at + frontWords (head .given) ≤ length middle
   front-fits = omega (arith, record-room, middle-long, p .is-front)
 
-  bytes-there : bytesFrom middle (at + front) (body .acked) ≡ bytesIn (readOf long levels)
+  bytes-there : bytesFrom middle (at + front) (body .acked) ≡ byteWords long levels
   bytes-there =
       let words = byteWords long levels in
       let place = at + front in
       ap (λ (l : List ℕ). bytesFrom l place (body .acked)) (written .written)
-      ∙ ap (λ (l : List ℕ). map (λ (word : ℕ). word % 0x100) (take (body .acked) l))
-      (paste-there before words place (omega (arith, words-room)))
-      ∙ ap (map (λ (word : ℕ). word % 0x100))
-      (take-at words (drop (place + length words) before) (body .acked) words-long)
-      ∙ bytes-low (readOf long levels .text .acked) (reading-bounded long levels (p .low) .byte)
+      ∙ ap (take (body .acked)) (paste-there before words place (omega (arith, words-room)))
+      ∙ take-at words (drop (place + length words) before) (body .acked) words-long
 
   pub stands-middle : Stands (readOf long levels) entry middle
   unfolding readOf headOf
@@ -219,15 +204,17 @@ module _ {long : Bool} {levels : List ℕ} {at : ℕ} {before : List ℕ} {head 
         addresses = ap (λ (e : Entry). e .addresses) entry-is;
         few = given-few header levels;
         values = values;
+        acked-most = bounded .acked;
+        bytes-low = bounded .byte;
         bytes = rw acked-is bytes-there;
         inside = omega (arith, record-room, middle-long, acked-is);
       }
 
-  first-is : (again : Bool) → firstWith (entry .said) body again ≡ firstWord (recordOf long levels again)
+  first-is : (again : Bool) → firstWith (entry .said) (body .ending) again ≡ firstWord (recordOf long levels again)
   unfolding firstWord readOf headOf
   first-is again = rw (said-is, written .told) (omega arith)
 
-  module _ {first : ℕ} (again : Bool) {after : List ℕ} (is-first : first ≡ firstWith (entry .said) body again)
+  module _ {first : ℕ} (again : Bool) {after : List ℕ} (is-first : first ≡ firstWith (entry .said) (body .ending) again)
       (put : after ≡ pasted middle at (frontOf entry first)) where
     record-written : after ≡ pasted before at (recordWords (recordOf long levels again))
     record-written =
@@ -254,6 +241,8 @@ module _ {long : Bool} {levels : List ℕ} {at : ℕ} {before : List ℕ} {head 
           addresses = stands-middle .addresses;
           few = stands-middle .few;
           values = stands-middle .values;
+          acked-most = stands-middle .acked-most;
+          bytes-low = stands-middle .bytes-low;
           bytes = rw put (kept ∙ stands-middle .bytes);
           inside = rw put (omega (arith, paste-length middle piece at inside, stands-middle .inside));
         }
@@ -267,6 +256,8 @@ module _ {long : Bool} {levels : List ℕ} {at : ℕ} {before : List ℕ} {head 
         addresses = s .addresses;
         few = s .few;
         values = s .values;
+        acked-most = s .acked-most;
+        bytes-low = s .bytes-low;
         bytes =
             ap (λ (l : List ℕ). bytesFrom l (old .bytes) (ackedIn old)) (written .written)
             ∙ kept-before before (byteWords long levels) (at + front) (old .bytes) (ackedIn old) (omega arith)
@@ -282,7 +273,7 @@ module _ {long : Bool} {levels : List ℕ} {at : ℕ} {before : List ℕ} {head 
 
   pub record-put : {kept : Entry} → kept ≡ entry → (old : Entry) (again : Bool) → old .bytes + ackedIn old ≤ at
       → again ≡ alikeEntries middle old kept
-      → {first : ℕ} {after : List ℕ} → first ≡ firstWith (kept .said) body again
+      → {first : ℕ} {after : List ℕ} → first ≡ firstWith (kept .said) (body .ending) again
       → after ≡ pasted middle at (frontOf kept first)
       → RecordPut long levels at old before kept after
   record-put {kept} is-entry old again ahead is {first} {after} is-first put =

@@ -19,13 +19,13 @@ abbrev pub entryWith : Head → Body → ℕ → Entry
 entryWith head body bytes =
     record {
       given = head .given;
-      said = head .fields + body .acked * 0x8_0000;
+      said = head .fields + body .acked * 0x8_0000 + body .unacked * 0x200_0000;
       addresses = head .addresses;
       bytes = bytes;
     }
 
-abbrev pub firstWith : ℕ → Body → Bool → ℕ
-firstWith said body again = body .ending + bitOf again * 0x10 + said + body .unacked * 0x200_0000
+abbrev pub firstWith : ℕ → ℕ → Bool → ℕ
+firstWith said ending again = ending + bitOf again * 0x10 + said
 
 -- how many words stand before the bytes, and which
 abbrev pub frontWords : ℕ → ℕ

@@ -4,12 +4,12 @@ ghost use Prim.Native.Nat.{_+_, _≤_};
 ghost use lib.ListN.{length};
 ghost use Rattle.line.specs.Cases.{same};
 ghost use Rattle.reader.specs.Entries.{ackedIn, alikeEntries, alikeFields, bytesFrom};
+use crate::words::ACKED_NUMBERS;
 use crate::words::ACKED_WEIGHT;
-use crate::words::ATTEMPTS_WEIGHT;
 
-// A frame whose bytes have been written: how many fields are given, what its record's first word says of them and of
-// the number of ACKed bytes, its second word, 0 where there is none, and where its bytes stand in the records. So few
-// numbers are cheap to hand on to the next frame and to compare.
+// A frame whose bytes have been written: how many fields are given, what its record's first word says of them, of the
+// number of ACKed bytes and of the attempts after these, its second word, 0 where there is none, and where its bytes
+// stand in the records. So few numbers are cheap to hand on to the next frame and to compare.
 pub struct Entry {
     pub given: u32,
     pub said: u32,
@@ -21,17 +21,17 @@ pub struct Entry {
 pub(crate) fn acked(entry: Entry) -> usize
     ensures { λ r. ⌜ r ≡ ackedIn entry ⌝ }
 {
-    (entry.said / ACKED_WEIGHT) as usize
+    (entry.said / ACKED_WEIGHT % ACKED_NUMBERS) as usize
 }
 
-// Whether the same fields are given, they are equal, and as many bytes were ACKed.
+// Whether the same fields are given, they are equal, as many bytes were ACKed, and as many attempts came after these.
 fn alike_fields(a: Entry, b: Entry) -> bool
     ensures { λ r. ⌜ r ≡ alikeFields a b ⌝ }
 {
     (a.given == b.given) & (a.said == b.said) & (a.addresses == b.addresses)
 }
 
-// Whether as many bytes from two places of the records on are equal, whatever their attempts.
+// Whether so many bytes from two places of the records on are equal, each with its attempts.
 fn alike_bytes(records: &[u32], a: usize, b: usize, count: usize) -> bool
     requires { ⌜ (a + count ≤ length (now records)) × (b + count ≤ length (now records)) ⌝ }
     ensures { λ r. ⌜
@@ -39,7 +39,7 @@ fn alike_bytes(records: &[u32], a: usize, b: usize, count: usize) -> bool
 {
     let mut i: usize = 0;
     while i < count {
-        if records[a + i] % ATTEMPTS_WEIGHT != records[b + i] % ATTEMPTS_WEIGHT {
+        if records[a + i] != records[b + i] {
             return false;
         }
         i += 1;

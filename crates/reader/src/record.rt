@@ -82,28 +82,27 @@ fn put_data(long: bool, head: Head, levels: &[u32], records: &mut [u32], at: usi
 
 // The entry of a frame with this header and data, whose bytes stand there.
 fn entry_of(head: Head, body: Body, bytes: usize) -> Entry
-    requires { ⌜ (head .fields < 0x8_0000) × (body .acked ≤ 32) ⌝ }
+    requires { ⌜ (head .fields < 0x8_0000) × (body .acked ≤ 32) × (body .unacked ≤ 32) ⌝ }
     ensures { λ r. ⌜ r ≡ entryWith head body bytes ⌝ }
 {
     let given = head.given;
     let fields = head.fields;
     let addresses = head.addresses;
     let acked = body.acked;
+    let unacked = body.unacked;
     Entry {
         given,
-        said: fields + (acked as u32) * ACKED_WEIGHT,
+        said: fields + (acked as u32) * ACKED_WEIGHT + unacked * UNACKED_WEIGHT,
         addresses,
         bytes,
     }
 }
 
-fn first_word(said: u32, body: Body, again: bool) -> u32
-    requires { ⌜ (said < 0x200_0000) × (body .unacked ≤ 32) × (body .ending ≤ 10) ⌝ }
-    ensures { λ r. ⌜ r ≡ firstWith said body again ⌝ }
+fn first_word(said: u32, ending: u32, again: bool) -> u32
+    requires { ⌜ (said < 0x8000_0000) × (ending ≤ 10) ⌝ }
+    ensures { λ r. ⌜ r ≡ firstWith said ending again ⌝ }
 {
-    let unacked = body.unacked;
-    let ending = body.ending;
-    ending + (again as u32) * AGAIN_WEIGHT + said + unacked * UNACKED_WEIGHT
+    ending + (again as u32) * AGAIN_WEIGHT + said
 }
 
 // How many words stand before the bytes: the second is there where the master address is given.
@@ -146,6 +145,11 @@ pub(crate) fn put_record(
     let body = put_data(long, head, levels, records, bytes);
     let entry = entry_of(head, body, bytes);
     let again = alike(records, before, entry);
-    put_front(records, at, entry, first_word(entry.said, body, again));
+    put_front(
+        records,
+        at,
+        entry,
+        first_word(entry.said, body.ending, again),
+    );
     entry
 }

@@ -2,7 +2,7 @@ use borrow.Author.Needs.{needs}
 use borrow.Author.Tests.{not-false, not-true}
 use mathlib.Core.Path.{_∙_, ap, sym}
 use native.Mathlib.Omega.{arith}
-use Prim.Native.Nat.{ℕ, _/_}
+use Prim.Native.Nat.{ℕ, _/_, _%_}
 use Rattle.reader.proofs.Entries.{said-alike}
 use Rattle.reader.specs.Entries.{alikeEntries}
 use Rattle.reader.proofs.entry.alike.Statement.{statement}
@@ -21,7 +21,7 @@ alike-spec =
     let fields = c .before .before .alike-fields in
     let said = said-alike (start .args .before) (start .args .entry)
     (sym (fields .ensures) ∙ not-false (fields .result) (c .before .if1 .left)) in
-    let count = ap (λ (n : ℕ). n / 0x8_0000) said in
+    let count = ap (λ (n : ℕ). n / 0x8_0000 % 0x40) said in
     (omega (arith, c .acked .ensures, count, start .pre .0), omega (arith, c .acked .ensures, start .pre .1)))
     (λ c. let fields = c .before .before .before .alike-fields in
     simp (← fields .ensures, not-false (fields .result) (c .before .before .if1 .left), ← c .before .acked .ensures)

@@ -12,6 +12,4 @@ first-word-spec =
     (λ c. let mark = bit-le (c .args .again) in omega arith)
     (λ c. let mark = bit-le (c .args .again) in omega arith)
     (λ c. let mark = bit-le (c .args .again) in omega arith)
-    (λ c. let mark = bit-le (c .args .again) in omega arith)
-    (λ c. let mark = bit-le (c .args .again) in omega arith)
     (λ c. search needs))
