@@ -10,11 +10,10 @@
 /* In two slots that were loaded at once: what is in neither of two levels. */
 #define NO_LEVELS (~(uint64_t)0x100000001)
 
-/* Of a record's first word: bit, control, length and the number of ACKed bytes. */
-#define COMPARED (((uint32_t)1 << AFTER_AT) - ((uint32_t)1 << BIT_AT))
+/* Of a record's first word all but the ending and the mark. */
+#define COMPARED (~(uint32_t)0 << BIT_AT)
 #define ENDING_OF(first) ((first) & 0xF)
 #define ACKED_OF(first) ((first) >> ACKED_AT & 0x3F)
-#define BYTE_MASK 0xFFu
 
 struct reader {
     const uint32_t *at, *end;    /* what is left of the log */
@@ -123,7 +122,7 @@ static inline bool is_again(const uint32_t *record, const uint32_t *before)
     uint32_t differ = 0;
     for (uint32_t i = 0, acked = ACKED_OF(*record); i < acked; i++)
         differ |= record[2 + i] ^ before[2 + i];
-    return !(differ & BYTE_MASK);
+    return !differ;
 }
 
 /* Eight words at a time; a word over 3 leaves a bit in what was seen. */

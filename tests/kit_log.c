@@ -184,6 +184,24 @@ static void extremes(void)
     odd_numbers(broadcast + iebus_record_words(broadcast[0]));
 }
 
+/* One byte at its first attempt, then twice at its second. */
+static void late_bytes(void)
+{
+    struct log log;
+    log.count = 0;
+    for (unsigned naks = 0, i = 0; i < 3; i++, naks = 1) {
+        put_header(&log, 1, 1);
+        put_bytes(&log, naks, 1);
+        put_bytes(&log, 1, 0);
+    }
+    uint32_t records[ROOM];
+    uint64_t frames = 0;
+    iebus_read_log(0, log.slots, log.count, records, ROOM, &frames);
+    const uint32_t *late = records + iebus_record_words(records[0]), *again = late + iebus_record_words(late[0]);
+    check("a byte at another attempt is not said again", frames == 3 && IEBUS_RECORD_AGAIN(late[0]) == 0);
+    check("one at the same attempt is", IEBUS_RECORD_AGAIN(again[0]) == 1);
+}
+
 static void refusals(struct log *log, uint32_t *records)
 {
     uint64_t frames = UNTOUCHED;
@@ -205,6 +223,7 @@ int main(void)
     check("it has eleven frames", frames == IEBUS_END_BROKEN_DATA + 1);
     walk(records);
     extremes();
+    late_bytes();
     refusals(&log, records);
     return any_failed;
 }

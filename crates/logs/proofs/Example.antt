@@ -56,6 +56,6 @@ header-told = relied false .header-says (drop 1 (called 1 nak)) (omega arith)
 
 -- one whose byte took a second attempt
 pub data-told :
-    DataSays false (sent 0x7B nak ++ sent 0x7B ack) (said (late 0x7B))
+    DataSays false (sent 0x7B nak ++ sent 0x7B ack) (said (sized 1 ++ sent 0x7B nak ++ sent 0x7B ack))
 unfolding ones onesIn levelOf levelsOf parityOf headerEnd
-data-told = relied false .data-says (drop 1 (late 0x7B)) refl
+data-told = relied false .data-says (drop 1 (sized 1 ++ sent 0x7B nak ++ sent 0x7B ack)) refl
