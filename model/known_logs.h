@@ -1,4 +1,4 @@
-/* Logs whose records were worked out by hand from ticket 1, for every reader that is tried.
+/* Logs whose records were worked out by hand from tickets 1 and 11, for every reader that is tried.
 
    A log is written as text, with blanks or without:
 
@@ -39,6 +39,12 @@ struct known_log {
 /* A record of one word: nothing given, or the bit alone. */
 #define NOTHING_GIVEN(again) FIRST_WORD(BROKEN_IN_BIT, again, 0, 0, 0, 0, 0)
 #define BIT_GIVEN(again, bit) FIRST_WORD(BROKEN_IN_MASTER, again, bit, 0, 0, 0, 0)
+
+/* What stands before the bytes of "S 1 m525 s123+ cF+ .." and of "S 0 m525 sFFF- cF- ..". */
+#define TO_ONE(ending, again, length, acked, after) \
+    FIRST_WORD(ending, again, 1, 0xF, length, acked, after), ADDRESSES(0x525, 0x123)
+#define TO_ALL(ending, again, length, acked, after) \
+    FIRST_WORD(ending, again, 0, 0xF, length, acked, after), ADDRESSES(0x525, 0xFFF)
 
 static const struct known_log known_logs[] = {
     {"the empty list has no frame", 0, "", 0, NO_RECORDS},
@@ -179,16 +185,10 @@ static const struct known_log known_logs[] = {
      RECORDS(FIRST_WORD(BROKEN_IN_LENGTH, 0, 1, 0x9, 0, 0, 0), ADDRESSES(0x525, 0x123),
              FIRST_WORD(NAK_AT_CONTROL, 1, 1, 0x9, 0, 0, 0), ADDRESSES(0x525, 0x123),
              FIRST_WORD(NAK_AT_CONTROL, 0, 1, 0x8, 0, 0, 0), ADDRESSES(0x525, 0x123))},
-    {"again: the length, with no byte ACKed, in all three endings", 0,
-     "S 1 m525 s123+ cF+ l02- _ S 1 m525 s123+ cF+ l02+ _ S 1 m525 s123+ cF+ l02+ d12- _ S 1 m525 s123+ cF+ l03- _", 4,
-     RECORDS(FIRST_WORD(NAK_AT_LENGTH, 0, 1, 0xF, 2, 0, 0), ADDRESSES(0x525, 0x123),
-             FIRST_WORD(BROKEN_IN_DATA, 1, 1, 0xF, 2, 0, 0), ADDRESSES(0x525, 0x123),
-             FIRST_WORD(ENDED_SHORT, 1, 1, 0xF, 2, 0, 1), ADDRESSES(0x525, 0x123),
-             FIRST_WORD(NAK_AT_LENGTH, 0, 1, 0xF, 3, 0, 0), ADDRESSES(0x525, 0x123))},
-    {"again: whole, though its byte went through at the third attempt", 0,
-     "S 1 m525 s123+ cF+ l01+ d12+ _ S 1 m525 s123+ cF+ l01+ d12-*2 d12+ _", 2,
-     RECORDS(FIRST_WORD(ENDED_WHOLE, 0, 1, 0xF, 1, 1, 0), ADDRESSES(0x525, 0x123), ACKED_BYTE(0x12, 1),
-             FIRST_WORD(ENDED_WHOLE, 1, 1, 0xF, 1, 1, 0), ADDRESSES(0x525, 0x123), ACKED_BYTE(0x12, 3))},
+    {"again: the length, with no attempt, NAK or broken off behind it", 0,
+     "S 1 m525 s123+ cF+ l02- _ S 1 m525 s123+ cF+ l02+ _ S 1 m525 s123+ cF+ l02+ d12+/3 _ S 1 m525 s123+ cF+ l03- _",
+     4, RECORDS(TO_ONE(NAK_AT_LENGTH, 0, 2, 0, 0), TO_ONE(BROKEN_IN_DATA, 1, 2, 0, 0),
+                TO_ONE(BROKEN_IN_DATA, 1, 2, 0, 0), TO_ONE(NAK_AT_LENGTH, 0, 3, 0, 0))},
     {"again: short, then broken off in data behind the same byte", 0,
      "S 0 m525 s123- cF- l02- d12- _ S 0 m525 s123- cF- l02- d12- d34!-/9 _", 2,
      RECORDS(FIRST_WORD(ENDED_SHORT, 0, 0, 0xF, 2, 1, 0), ADDRESSES(0x525, 0x123), ACKED_BYTE(0x12, 1),
@@ -214,6 +214,84 @@ static const struct known_log known_logs[] = {
     {"not again: the same as the frame before the last", 0, "S 1 m525 s123- _ S 1 _ S 1 m525 s123- _", 3,
      RECORDS(FIRST_WORD(NAK_AT_SLAVE, 0, 1, 0, 0, 0, 0), ADDRESSES(0x525, 0x123), BIT_GIVEN(0, 1),
              FIRST_WORD(NAK_AT_SLAVE, 0, 1, 0, 0, 0, 0), ADDRESSES(0x525, 0x123))},
+
+    /* ticket 11: again by the attempts too */
+    {"not again: its byte went through at the third attempt", 0,
+     "S 1 m525 s123+ cF+ l01+ d12+ _ S 1 m525 s123+ cF+ l01+ d12-*2 d12+ _ S 1 m525 s123+ cF+ l01+ d12+ _", 3,
+     RECORDS(TO_ONE(ENDED_WHOLE, 0, 1, 1, 0), ACKED_BYTE(0x12, 1), TO_ONE(ENDED_WHOLE, 0, 1, 1, 0),
+             ACKED_BYTE(0x12, 3), TO_ONE(ENDED_WHOLE, 0, 1, 1, 0), ACKED_BYTE(0x12, 1))},
+    {"again: the third frame is held against the second, not against the first", 0,
+     "S 1 m525 s123+ cF+ l01+ d12+ _ S 1 m525 s123+ cF+ l01+ d12-*2 d12+ _ S 1 m525 s123+ cF+ l01+ d12-*2 d12+ _", 3,
+     RECORDS(TO_ONE(ENDED_WHOLE, 0, 1, 1, 0), ACKED_BYTE(0x12, 1), TO_ONE(ENDED_WHOLE, 0, 1, 1, 0),
+             ACKED_BYTE(0x12, 3), TO_ONE(ENDED_WHOLE, 1, 1, 1, 0), ACKED_BYTE(0x12, 3))},
+    {"not again: the first of three bytes took an attempt more", 0,
+     "S 1 m525 s123+ cF+ l03+ d12+ d34+ d56+ _ S 1 m525 s123+ cF+ l03+ d12- d12+ d34+ d56+ _", 2,
+     RECORDS(TO_ONE(ENDED_WHOLE, 0, 3, 3, 0), ACKED_BYTE(0x12, 1), ACKED_BYTE(0x34, 1), ACKED_BYTE(0x56, 1),
+             TO_ONE(ENDED_WHOLE, 0, 3, 3, 0), ACKED_BYTE(0x12, 2), ACKED_BYTE(0x34, 1), ACKED_BYTE(0x56, 1))},
+    {"not again: the second of three bytes took an attempt less", 0,
+     "S 1 m525 s123+ cF+ l03+ d12+ d34-*2 d34+ d56+ _ S 1 m525 s123+ cF+ l03+ d12+ d34- d34+ d56+ _", 2,
+     RECORDS(TO_ONE(ENDED_WHOLE, 0, 3, 3, 0), ACKED_BYTE(0x12, 1), ACKED_BYTE(0x34, 3), ACKED_BYTE(0x56, 1),
+             TO_ONE(ENDED_WHOLE, 0, 3, 3, 0), ACKED_BYTE(0x12, 1), ACKED_BYTE(0x34, 2), ACKED_BYTE(0x56, 1))},
+    {"not again: the last of three bytes took an attempt more", 0,
+     "S 1 m525 s123+ cF+ l03+ d12+ d34+ d56+ _ S 1 m525 s123+ cF+ l03+ d12+ d34+ d56- d56+ _", 2,
+     RECORDS(TO_ONE(ENDED_WHOLE, 0, 3, 3, 0), ACKED_BYTE(0x12, 1), ACKED_BYTE(0x34, 1), ACKED_BYTE(0x56, 1),
+             TO_ONE(ENDED_WHOLE, 0, 3, 3, 0), ACKED_BYTE(0x12, 1), ACKED_BYTE(0x34, 1), ACKED_BYTE(0x56, 2))},
+    {"not again: as many attempts in all, otherwise over the two bytes", 0,
+     "S 1 m525 s123+ cF+ l02+ d12+ d34-*2 d34+ _ S 1 m525 s123+ cF+ l02+ d12-*2 d12+ d34+ _"
+     "S 1 m525 s123+ cF+ l02+ d12- d12+ d34- d34+ _", 3,
+     RECORDS(TO_ONE(ENDED_WHOLE, 0, 2, 2, 0), ACKED_BYTE(0x12, 1), ACKED_BYTE(0x34, 3),
+             TO_ONE(ENDED_WHOLE, 0, 2, 2, 0), ACKED_BYTE(0x12, 3), ACKED_BYTE(0x34, 1),
+             TO_ONE(ENDED_WHOLE, 0, 2, 2, 0), ACKED_BYTE(0x12, 2), ACKED_BYTE(0x34, 2))},
+    {"not again: as many attempts in all, of which one more follows the byte", 0,
+     "S 1 m525 s123+ cF+ l02+ d12- d12+ d34- _ S 1 m525 s123+ cF+ l02+ d12+ d34-*2 _", 2,
+     RECORDS(TO_ONE(ENDED_SHORT, 0, 2, 1, 1), ACKED_BYTE(0x12, 2), TO_ONE(ENDED_SHORT, 0, 2, 1, 2),
+             ACKED_BYTE(0x12, 1))},
+    {"not again: after the last byte one NAK, then two, then none", 0,
+     "S 1 m525 s123+ cF+ l02+ d12+ d34- _ S 1 m525 s123+ cF+ l02+ d12+ d34-*2 _ S 1 m525 s123+ cF+ l02+ d12+ _", 3,
+     RECORDS(TO_ONE(ENDED_SHORT, 0, 2, 1, 1), ACKED_BYTE(0x12, 1), TO_ONE(ENDED_SHORT, 0, 2, 1, 2),
+             ACKED_BYTE(0x12, 1), TO_ONE(ENDED_SHORT, 0, 2, 1, 0), ACKED_BYTE(0x12, 1))},
+    {"not again: no byte ACKed, and in all no attempt, one, two, one, none", 0,
+     "S 1 m525 s123+ cF+ l02- _ S 1 m525 s123+ cF+ l02+ d12- _ S 1 m525 s123+ cF+ l02+ d12-*2 _"
+     "S 1 m525 s123+ cF+ l02+ d12- _ S 1 m525 s123+ cF+ l02+ _", 5,
+     RECORDS(TO_ONE(NAK_AT_LENGTH, 0, 2, 0, 0), TO_ONE(ENDED_SHORT, 0, 2, 0, 1), TO_ONE(ENDED_SHORT, 0, 2, 0, 2),
+             TO_ONE(ENDED_SHORT, 0, 2, 0, 1), TO_ONE(BROKEN_IN_DATA, 0, 2, 0, 0))},
+    {"again: cut inside the third attempt, behind the second, before the third's A", 0,
+     "S 1 m525 s123+ cF+ l03+ d12- d12+ d34+/4 _ S 1 m525 s123+ cF+ l03+ d12- d12+ _"
+     "S 1 m525 s123+ cF+ l03+ d12- d12+ d56-/9 _", 3,
+     RECORDS(TO_ONE(BROKEN_IN_DATA, 0, 3, 1, 0), ACKED_BYTE(0x12, 2), TO_ONE(ENDED_SHORT, 1, 3, 1, 0),
+             ACKED_BYTE(0x12, 2), TO_ONE(BROKEN_IN_DATA, 1, 3, 1, 0), ACKED_BYTE(0x12, 2))},
+    {"not again: the second NAK is there, then cut before its A", 0,
+     "S 1 m525 s123+ cF+ l02+ d12-*2 _ S 1 m525 s123+ cF+ l02+ d12- d12-/9 _", 2,
+     RECORDS(TO_ONE(ENDED_SHORT, 0, 2, 0, 2), TO_ONE(BROKEN_IN_DATA, 0, 2, 0, 1))},
+    {"again: as many attempts, with another P, and other bytes NAKed", 0,
+     "S 1 m525 s123+ cF+ l02+ d12-*2 d12+ d34- _ S 1 m525! s123!+ cF!+ l02!+ d56!- d78- d12!+ d9A!- _", 2,
+     RECORDS(TO_ONE(ENDED_SHORT, 0, 2, 1, 1), ACKED_BYTE(0x12, 3), TO_ONE(ENDED_SHORT, 1, 2, 1, 1),
+             ACKED_BYTE(0x12, 3))},
+    {"again: levels behind a whole frame are no attempts after its last byte", 0,
+     "S 1 m525 s123+ cF+ l01+ d12- d12+ _ S 1 m525 s123+ cF+ l01+ d12- d12+ d34-*2 _", 2,
+     RECORDS(TO_ONE(ENDED_WHOLE, 0, 1, 1, 0), ACKED_BYTE(0x12, 2), TO_ONE(ENDED_WHOLE, 1, 1, 1, 0),
+             ACKED_BYTE(0x12, 2))},
+    {"mode 0, again: 16 NAKs, and what would be the 17th; not again: 15", 0,
+     "S 1 m525 s123+ cF+ l01+ d12-*16 _ S 1 m525 s123+ cF+ l01+ d12-*17 _ S 1 m525 s123+ cF+ l01+ d12-*15 _", 3,
+     RECORDS(TO_ONE(ENDED_SHORT, 0, 1, 0, 16), TO_ONE(ENDED_SHORT, 1, 1, 0, 16), TO_ONE(ENDED_SHORT, 0, 1, 0, 15))},
+    {"mode 1, again: a byte at its 32nd attempt; not again: at its 31st", 1,
+     "S 1 m525 s123+ cF+ l01+ d12-*31 d12+ _ S 1 m525 s123+ cF+ l01+ d12-*31 d12+ _"
+     "S 1 m525 s123+ cF+ l01+ d12-*30 d12+ _", 3,
+     RECORDS(TO_ONE(ENDED_WHOLE, 0, 1, 1, 0), ACKED_BYTE(0x12, 32), TO_ONE(ENDED_WHOLE, 1, 1, 1, 0),
+             ACKED_BYTE(0x12, 32), TO_ONE(ENDED_WHOLE, 0, 1, 1, 0), ACKED_BYTE(0x12, 31))},
+    {"not again: a broadcast's bad byte stands first, then second, then last", 0,
+     "S 0 m525 sFFF- cF- l03- d34!- d12- d56- _ S 0 m525 sFFF- cF- l03- d12- d34!- d56- _"
+     "S 0 m525 sFFF- cF- l03- d12- d56- d34!- _", 3,
+     RECORDS(TO_ALL(ENDED_SHORT, 0, 3, 2, 0), ACKED_BYTE(0x12, 2), ACKED_BYTE(0x56, 1),
+             TO_ALL(ENDED_SHORT, 0, 3, 2, 0), ACKED_BYTE(0x12, 1), ACKED_BYTE(0x56, 2),
+             TO_ALL(ENDED_SHORT, 0, 3, 2, 1), ACKED_BYTE(0x12, 1), ACKED_BYTE(0x56, 1))},
+    {"again: a broadcast's bad byte is another one in the same place, and each A differs", 0,
+     "S 0 m525 sFFF- cF- l03- d12- d34!- d56- _ S 0 m525! sFFF+ cF!+ l03+ d12+ d78!+ d56+ _", 2,
+     RECORDS(TO_ALL(ENDED_SHORT, 0, 3, 2, 0), ACKED_BYTE(0x12, 1), ACKED_BYTE(0x56, 2),
+             TO_ALL(ENDED_SHORT, 1, 3, 2, 0), ACKED_BYTE(0x12, 1), ACKED_BYTE(0x56, 2))},
+    {"not again: a broadcast of bad bytes alone, two and then one", 0,
+     "S 0 m525 sFFF- cF- l02- d12!- d34!- _ S 0 m525 sFFF- cF- l02- d12!- _", 2,
+     RECORDS(TO_ALL(ENDED_SHORT, 0, 2, 0, 2), TO_ALL(ENDED_SHORT, 0, 2, 0, 1))},
 };
 
 enum { KNOWN_LOGS = sizeof known_logs / sizeof *known_logs };

@@ -166,15 +166,17 @@ static struct frame read_frame(struct levels levels, uint32_t mode)
     return f;
 }
 
-/* "exactly if the same fields are given in it as in the frame before, and they and the ACKed bytes are equal" */
+/* "exactly if the same fields are given in it as in the frame before, and they and the ACKed bytes are equal", and, by
+   ticket 11, if "the numbers of complete attempts up to each ACKed byte, from the one before, and after the last (or in
+   all, where there is none) are equal as well". A frame that ends before its data has made no attempt. */
 static bool is_again(const struct frame *f, const struct frame *before)
 {
     bool equal = f->given == before->given && f->acked == before->acked;
     for (unsigned i = 0; i < f->given && equal; i++)
         equal = f->value[i] == before->value[i];
     for (unsigned i = 0; i < f->acked && equal; i++)
-        equal = f->byte[i] == before->byte[i];
-    return equal;
+        equal = f->byte[i] == before->byte[i] && f->attempts[i] == before->attempts[i];
+    return equal && f->attempts_after == before->attempts_after;
 }
 
 /* Gives how many words the record has. */

@@ -22,9 +22,23 @@ enum closing { BY_IDLE, BY_START, BY_LIST_END, CLOSINGS };
 
 /* What a frame is beside the frame before it, the values of fields that are not given being 0 and length 00H too. */
 enum likeness {
-    AGAIN_EXACTLY, AGAIN_WITH_OTHER_ENDING, AGAIN_WITH_OTHER_ATTEMPTS,
+    AGAIN_EXACTLY, AGAIN_WITH_OTHER_ENDING,
+    /* not again for one reason alone */
+    ATTEMPTS_DIFFER,
     ONE_FIELD_DIFFERS,   /* and four more: which of the five it is */
     BYTES_DIFFER = ONE_FIELD_DIFFERS + HEADER_FIELDS, MORE_OR_FEWER_BYTES, GIVEN_ALONE_DIFFERS, UNLIKE, LIKENESSES
+};
+
+/* How the attempts of a frame stand beside those of the frame before it, where it is again or was by ticket 1. */
+enum beside {
+    /* it is: with numbers over 1, and with other slots that do not count */
+    BYTE_REPEATED, SEVERAL_AFTER, SEVERAL_IN_ALL,
+    OTHER_BYTE_FAILS, ONE_CUT_IN_AN_ATTEMPT, CUT_AT_ANOTHER_SLOT, OTHER_LEVELS_BEHIND,
+    /* it was: one number alone is higher, a byte's or the one behind the bytes; each likewise lower */
+    ONE_IS_HIGHER, FIRST_BYTES = ONE_IS_HIGHER, MIDDLE_BYTES, LAST_BYTES, ONLY_BYTES, AFTER_THE_LAST, IN_ALL,
+    ONE_IS_LOWER,
+    /* it was: as many in all, with as many behind the bytes or not; more or fewer in all, by several numbers */
+    BYTES_SHARE_OTHERWISE = ONE_IS_LOWER + (ONE_IS_LOWER - ONE_IS_HIGHER), ALL_SHARE_OTHERWISE, SEVERAL_DIFFER, BESIDES
 };
 
 /* What becomes of a whole log. */
@@ -38,13 +52,20 @@ struct reach {
     unsigned long last_attempts[2][2];                /* short by the last attempt */
     unsigned long passed_over[2][ENDINGS];            /* with levels behind the end, by broadcast bit */
     unsigned long likenesses[ENDINGS][LIKENESSES];    /* by the ending of the frame before */
+    unsigned long besides[2][2][BESIDES];             /* by mode and broadcast bit */
     unsigned long acked[2][MOST_ACKED + 1];           /* by broadcast bit, as the next two */
     unsigned long attempts[2][MOST_ACKED + 1];
     unsigned long after[2][MOST_ACKED + 1];
     unsigned long cuts[2][CUT_PLACES][CLOSINGS];
     unsigned long later_cuts[2][SLOTS_PER_ATTEMPT][CLOSINGS];   /* in an attempt behind the first, or before it */
     unsigned long outcomes[OUTCOMES];
-    unsigned long logs, frames, other_modes;
+    unsigned long logs, frames, other_modes, wrong_marks;
+};
+
+/* A frame's record, and the levels behind its start. */
+struct seen {
+    const uint32_t *record, *slots;
+    size_t levels;
 };
 
 /* The levels behind a start. */
@@ -104,37 +125,75 @@ static inline unsigned fields_that_differ(const uint32_t *a, const uint32_t *b, 
     return count;
 }
 
-/* The bytes that both have are equal, and so are their attempts. */
-static inline bool bytes_agree(const uint32_t *a, const uint32_t *b, bool with_attempts)
+/* The bytes that both have are equal. */
+static inline bool bytes_agree(const uint32_t *a, const uint32_t *b)
 {
     bool agree = true;
-    for (unsigned i = 0; i < record_acked(a) && i < record_acked(b); i++) {
+    for (unsigned i = 0; i < record_acked(a) && i < record_acked(b); i++)
         agree &= record_byte(a, i) == record_byte(b, i);
-        agree &= !with_attempts || record_attempts(a, i) == record_attempts(b, i);
-    }
     return agree;
 }
 
+/* The bytes that both have took as many attempts, and as many follow the last one, or are all. */
+static inline bool attempts_agree(const uint32_t *a, const uint32_t *b)
+{
+    bool agree = record_after(a) == record_after(b);
+    for (unsigned i = 0; i < record_acked(a) && i < record_acked(b); i++)
+        agree &= record_attempts(a, i) == record_attempts(b, i);
+    return agree;
+}
+
+/* By the rules: the mark is not looked at. */
 static inline enum likeness likeness_of(const uint32_t *before, const uint32_t *record)
 {
     unsigned field = 0, differ = fields_that_differ(before, record, &field);
     bool same_given = record_given(before) == record_given(record);
     bool same_count = record_acked(before) == record_acked(record);
-    if (record_again(record)) {
-        if (record_ending(before) != record_ending(record))
-            return AGAIN_WITH_OTHER_ENDING;
-        bool same_attempts = record_after(before) == record_after(record) && bytes_agree(before, record, true);
-        return same_attempts ? AGAIN_EXACTLY : AGAIN_WITH_OTHER_ATTEMPTS;
+    bool same_bytes = bytes_agree(before, record), same_attempts = attempts_agree(before, record);
+    if (same_given && differ == 0 && same_count && same_bytes) {
+        if (!same_attempts)
+            return ATTEMPTS_DIFFER;
+        return record_ending(before) == record_ending(record) ? AGAIN_EXACTLY : AGAIN_WITH_OTHER_ENDING;
     }
-    if (same_given && differ == 1 && same_count && bytes_agree(before, record, false))
+    if (!same_attempts)
+        return UNLIKE;
+    if (same_given && differ == 1 && same_count && same_bytes)
         return ONE_FIELD_DIFFERS + field;
     if (same_given && differ == 0 && same_count)
         return BYTES_DIFFER;
-    if (same_given && differ == 0 && bytes_agree(before, record, false))
+    if (same_given && differ == 0 && same_bytes)
         return MORE_OR_FEWER_BYTES;
     if (!same_given && differ == 0 && record_acked(before) == 0 && record_acked(record) == 0)
         return GIVEN_ALONE_DIFFERS;
     return UNLIKE;
+}
+
+/* Which number of attempts it is, of frames with so many ACKed bytes. */
+static inline enum beside number_at(unsigned place, unsigned bytes)
+{
+    if (place == bytes)
+        return bytes == 0 ? IN_ALL : AFTER_THE_LAST;
+    if (bytes == 1)
+        return ONLY_BYTES;
+    return place == 0 ? FIRST_BYTES : place == bytes - 1 ? LAST_BYTES : MIDDLE_BYTES;
+}
+
+/* How the attempts of two frames differ that are else equal. */
+static inline enum beside difference_of(const uint32_t *before, const uint32_t *record)
+{
+    unsigned bytes = record_acked(record), total = total_attempts(record), total_before = total_attempts(before);
+    bool same_after = record_after(before) == record_after(record);
+    unsigned differ = !same_after, place = bytes;
+    for (unsigned i = 0; i < bytes; i++)
+        if (record_attempts(before, i) != record_attempts(record, i)) {
+            place = i;
+            differ++;
+        }
+    if (total == total_before)
+        return same_after ? BYTES_SHARE_OTHERWISE : ALL_SHARE_OTHERWISE;
+    if (differ > 1)
+        return SEVERAL_DIFFER;
+    return number_at(place, bytes) + (total > total_before ? 0 : ONE_IS_LOWER - ONE_IS_HIGHER);
 }
 
 /* Whether the rules allow that likeness behind a frame of that ending. */
@@ -146,13 +205,14 @@ static inline bool likeness_can_be(enum ending before, enum likeness likeness)
         /* all bytes of the length make a frame whole, and so many slots end it in one field alone */
         return before != ENDED_WHOLE && before != BROKEN_IN_BIT && before != BROKEN_IN_MASTER
                && before != BROKEN_IN_SLAVE;
-    case AGAIN_WITH_OTHER_ATTEMPTS:
     case BYTES_DIFFER:
         return before == ENDED_WHOLE || before == ENDED_SHORT || before == BROKEN_IN_DATA;
+    case ATTEMPTS_DIFFER:
     case MORE_OR_FEWER_BYTES:
         return record_given(record) == HEADER_FIELDS;
     case GIVEN_ALONE_DIFFERS:
-        return before != ENDED_WHOLE;
+        /* both frames are without an attempt */
+        return before != ENDED_WHOLE && before != ENDED_SHORT;
     case AGAIN_EXACTLY:
     case UNLIKE:
         return true;
@@ -171,13 +231,13 @@ static inline void count_data(struct reach *reach, const uint32_t *record)
 }
 
 /* Where the frame stopped, by the levels behind its start. */
-static inline void count_end(struct reach *reach, const struct log *log, size_t start, const uint32_t *record)
+static inline void count_end(struct reach *reach, const struct log *log, size_t start, const struct seen *frame)
 {
-    enum ending ending = record_ending(record);
-    size_t levels = count_levels(log, start), used = slots_used(record);
+    enum ending ending = record_ending(frame->record);
+    size_t levels = frame->levels, used = slots_used(frame->record);
     enum closing closing = closing_of(log, start + 1 + levels);
-    unsigned bit = record_bit(record);
-    bool last = total_attempts(record) == (log->mode ? ATTEMPTS_MODE_1 : ATTEMPTS_MODE_0);
+    unsigned bit = record_bit(frame->record);
+    bool last = total_attempts(frame->record) == (log->mode ? ATTEMPTS_MODE_1 : ATTEMPTS_MODE_0);
     if (ending >= BROKEN_IN_BIT && levels < CUT_PLACES)
         reach->cuts[bit][levels][closing]++;
     else if (ending >= BROKEN_IN_BIT || (ending == ENDED_SHORT && !last && levels == used))
@@ -187,20 +247,67 @@ static inline void count_end(struct reach *reach, const struct log *log, size_t 
     reach->last_attempts[log->mode != 0][bit] += ending == ENDED_SHORT && last;
 }
 
+/* The bytes of all attempts, of which those that were ACKed are equal. */
+static inline bool tried_bytes_agree(const struct seen *a, const struct seen *b, unsigned attempts)
+{
+    bool agree = true;
+    for (size_t at = PLACE_OF_DATA; attempts > 0; attempts--, at += SLOTS_PER_ATTEMPT)
+        agree &= memcmp(a->slots + at, b->slots + at, BYTE_BITS * sizeof *a->slots) == 0;
+    return agree;
+}
+
+/* Two frames of which one is again. Behind a complete attempt another ending is that of a cut one. */
+static inline void count_again(unsigned long *besides, const struct seen *before, const struct seen *frame)
+{
+    const uint32_t *record = frame->record;
+    enum ending ending = record_ending(record);
+    unsigned total = total_attempts(record);
+    bool other_ending = ending != record_ending(before->record), repeated = false;
+    for (unsigned i = 0; i < record_acked(record); i++)
+        repeated |= record_attempts(record, i) > 1;
+    besides[BYTE_REPEATED] += repeated;
+    besides[record_acked(record) > 0 ? SEVERAL_AFTER : SEVERAL_IN_ALL] += record_after(record) > 1;
+    besides[OTHER_BYTE_FAILS] += !tried_bytes_agree(before, frame, total);
+    besides[ONE_CUT_IN_AN_ATTEMPT] += other_ending && total > 0;
+    besides[CUT_AT_ANOTHER_SLOT] += !other_ending && ending == BROKEN_IN_DATA && frame->levels != before->levels;
+    besides[OTHER_LEVELS_BEHIND] += !other_ending && ending <= ENDED_SHORT
+                                    && (frame->levels - PLACE_OF_DATA) / SLOTS_PER_ATTEMPT
+                                       != (before->levels - PLACE_OF_DATA) / SLOTS_PER_ATTEMPT;
+}
+
+/* Ticket 11: "Each mark given under the new meaning was given under the old, and one is lost only where these numbers
+   differ". */
+static inline void count_pair(struct reach *reach, uint32_t mode, const struct seen *before, const struct seen *frame)
+{
+    enum likeness likeness = likeness_of(before->record, frame->record);
+    bool again = likeness == AGAIN_EXACTLY || likeness == AGAIN_WITH_OTHER_ENDING;
+    unsigned long *besides = reach->besides[mode != 0][record_bit(frame->record)];
+    reach->likenesses[record_ending(before->record)][likeness]++;
+    reach->wrong_marks += record_again(frame->record) != again;
+    if (again)
+        count_again(besides, before, frame);
+    else if (likeness == ATTEMPTS_DIFFER)
+        besides[difference_of(before->record, frame->record)]++;
+}
+
 /* All frames of a log that was taken; gives how many words their records have. */
 static inline size_t count_frames(struct reach *reach, const struct log *log, const uint32_t *records)
 {
-    const uint32_t *before = NULL, *record = records;
+    struct seen before = {NULL, NULL, 0};
+    const uint32_t *record = records;
     for (size_t i = 0; i < log->len; i++) {
         if (log->slots[i] != SLOT_START)
             continue;
+        struct seen frame = {record, log->slots + i + 1, count_levels(log, i)};
         reach->frames++;
         reach->endings[log->mode != 0][record_bit(record)][record_ending(record)]++;
         count_data(reach, record);
-        count_end(reach, log, i, record);
-        if (before)
-            reach->likenesses[record_ending(before)][likeness_of(before, record)]++;
-        before = record;
+        count_end(reach, log, i, &frame);
+        if (before.record)
+            count_pair(reach, log->mode, &before, &frame);
+        else
+            reach->wrong_marks += record_again(record);
+        before = frame;
         record += record_words(record);
     }
     return (size_t)(record - records);
@@ -295,6 +402,17 @@ static inline void check_likenesses(const struct reach *reach)
     check("no ending is followed by what the rules do not allow behind it", never == 0);
 }
 
+static inline void check_besides(const struct reach *reach)
+{
+    struct least least = {-1ul, 0, 0, 0};
+    for (unsigned mode = 0; mode < 2; mode++)
+        for (unsigned bit = 0; bit < 2; bit++)
+            for (unsigned beside = 0; beside < BESIDES; beside++)
+                look_at(&least, reach->besides[mode][bit][beside], mode, bit, beside);
+    check_least("attempts agree and differ in each way in each mode, in individual frames and in broadcasts", &least);
+    check("a mark is given exactly where it was by ticket 1 and the attempts agree", reach->wrong_marks == 0);
+}
+
 static inline void check_numbers(const struct reach *reach)
 {
     struct least acked = {-1ul, 0, 0, 0}, attempts = {-1ul, 0, 0, 0}, after = {-1ul, 0, 0, 0};
@@ -336,6 +454,7 @@ static inline void check_reached(const struct reach *reach)
     check_endings(reach);
     check_ends(reach);
     check_likenesses(reach);
+    check_besides(reach);
     check_numbers(reach);
     check_cuts(reach);
     printf("%lu logs, %lu frames\n", reach->logs, reach->frames);

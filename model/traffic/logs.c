@@ -1,5 +1,6 @@
 /* Frames of every kind, cut and disturbed at every place, and said again with and without a difference. What the
-   rules make of a frame is for the readers; here they only decide how many attempts are worth sending. */
+   rules make of a frame is for the readers; here they only decide how many attempts are worth sending, and which of
+   them bring no byte. */
 #include <string.h>
 
 #include "fields.h"
@@ -66,7 +67,7 @@ static unsigned draw_length(struct random *r, const struct manner *m)
 
 static struct manner draw_manner(struct random *r)
 {
-    static const uint32_t nak[] = {0, 0, 0, 0, 100, 400, 1000}, bad_parity[] = {0, 0, 0, 0, 100, 500};
+    static const uint32_t nak[] = {0, 0, 0, 100, 300, 500, 1000}, bad_parity[] = {0, 0, 0, 100, 300, 500};
     struct manner m = {.nak = random_pick(r, nak)};
     m.bad_parity = random_pick(r, bad_parity);
     if (random_chance(r, 800))
@@ -131,7 +132,7 @@ static void draw_cut(struct random *r, struct draft *d)
     size_t header = d->len < PLACE_OF_DATA ? d->len : PLACE_OF_DATA;
     uint32_t attempts = (uint32_t)(d->len - header) / SLOTS_PER_ATTEMPT;
     d->shown = d->len;
-    switch (random_below(r, 10)) {
+    switch (random_below(r, 11)) {
     case 0:
     case 1:
         d->shown = random_below(r, PLACE_OF_DATA + SLOTS_PER_ATTEMPT);
@@ -141,6 +142,7 @@ static void draw_cut(struct random *r, struct draft *d)
         d->shown = header + random_below(r, SLOTS_PER_ATTEMPT * attempts + 1);
         break;
     case 3:
+    case 4:
         d->shown = header + SLOTS_PER_ATTEMPT * random_below(r, attempts + 1);
         break;
     }
@@ -182,15 +184,21 @@ static void draw_zeros(struct random *r, struct draft *d)
     d->shown = random_below(r, (uint32_t)d->len + 1);
 }
 
-static size_t attempts_in(const struct draft *d)
+/* The complete attempts of a frame that has so many levels. */
+static uint32_t attempts_in(size_t levels)
 {
-    return d->len < PLACE_OF_DATA ? 0 : (d->len - PLACE_OF_DATA) / SLOTS_PER_ATTEMPT;
+    return levels < PLACE_OF_DATA ? 0 : (uint32_t)(levels - PLACE_OF_DATA) / SLOTS_PER_ATTEMPT;
+}
+
+static size_t attempt_place(uint32_t attempt)
+{
+    return PLACE_OF_DATA + SLOTS_PER_ATTEMPT * (size_t)attempt;
 }
 
 /* Where an attempt begins, or where the next one would. */
 static size_t draw_attempt_place(struct random *r, const struct draft *d)
 {
-    return PLACE_OF_DATA + SLOTS_PER_ATTEMPT * random_below(r, (uint32_t)attempts_in(d) + 1);
+    return attempt_place(random_below(r, attempts_in(d->len) + 1));
 }
 
 /* The P of any field that has one. */
@@ -234,45 +242,124 @@ static void flip(struct draft *d, size_t place)
         d->levels[place] ^= 1;
 }
 
-/* One attempt more that brings nothing: NAK, or in a broadcast a bad P. */
-static void add_attempt(struct random *r, struct draft *d)
+/* An attempt that brings no byte has a NAK or, in a broadcast, a bad P; what else it holds does not count. */
+static void put_failed_attempt(struct random *r, struct draft *d, size_t place)
 {
-    if (d->len < PLACE_OF_DATA || d->len + SLOTS_PER_ATTEMPT > MOST_FRAME_LEVELS)
-        return;
-    size_t place = draw_attempt_place(r, d);
-    uint32_t *attempt = d->levels + place;
-    memmove(attempt + SLOTS_PER_ATTEMPT, attempt, (d->len - place) * sizeof *attempt);
-    put_field(attempt, random_below(r, 0x100), BYTE_BITS, is_broadcast(d), A_NAK);
-    d->len += SLOTS_PER_ATTEMPT;
-    /* a broadcast repeats nothing: as many slots as before, or one attempt more */
-    if (!is_broadcast(d) || random_below(r, 2))
-        d->shown += d->shown >= place ? SLOTS_PER_ATTEMPT : 0;
+    bool bad_parity = is_broadcast(d) || random_below(r, 2);
+    enum a_slot a = is_broadcast(d) && random_below(r, 2) ? A_ACK : A_NAK;
+    put_field(d->levels + place, random_below(r, 0x100), BYTE_BITS, bad_parity, a);
 }
 
-/* The frame before is said again: exactly, but for one bit, with one attempt more, with a bad parity, with another A
-   or with another end. */
+static bool has_failed(const struct draft *d, size_t place)
+{
+    uint32_t ones = 0;
+    for (size_t i = 0; i <= P_IN_ATTEMPT; i++)
+        ones += d->levels[place + i];
+    return is_broadcast(d) ? ones % 2 : d->levels[place + A_IN_ATTEMPT];
+}
+
+/* One of the attempts shown that bring no byte, or d->shown where there is none. */
+static size_t draw_failed_attempt(struct random *r, const struct draft *d)
+{
+    uint32_t count = attempts_in(d->shown), first = count ? random_below(r, count) : 0;
+    for (uint32_t i = 0; i < count; i++)
+        if (has_failed(d, attempt_place((first + i) % count)))
+            return attempt_place((first + i) % count);
+    return d->shown;
+}
+
+/* One attempt more that brings no byte. */
+static void add_attempt(struct random *r, struct draft *d)
+{
+    if (d->shown < PLACE_OF_DATA || d->len + SLOTS_PER_ATTEMPT > MOST_FRAME_LEVELS)
+        return;
+    size_t place = attempt_place(random_below(r, attempts_in(d->shown) + 1));
+    uint32_t *attempt = d->levels + place;
+    memmove(attempt + SLOTS_PER_ATTEMPT, attempt, (d->len - place) * sizeof *attempt);
+    put_failed_attempt(r, d, place);
+    d->len += SLOTS_PER_ATTEMPT;
+    d->shown += SLOTS_PER_ATTEMPT;
+}
+
+/* One attempt less, where there is one; gives whether there was. */
+static bool remove_attempt(struct draft *d, size_t place)
+{
+    if (place == d->shown)
+        return false;
+    d->len -= SLOTS_PER_ATTEMPT;
+    d->shown -= SLOTS_PER_ATTEMPT;
+    uint32_t *attempt = d->levels + place;
+    memmove(attempt, attempt + SLOTS_PER_ATTEMPT, (d->len - place) * sizeof *attempt);
+    return true;
+}
+
+/* The complete attempts stay, and none to nine slots of the next one come behind them. */
+static void cut_in_next_attempt(struct random *r, struct draft *d)
+{
+    if (d->shown < PLACE_OF_DATA || d->len + SLOTS_PER_ATTEMPT > MOST_FRAME_LEVELS)
+        return;
+    d->shown = attempt_place(attempts_in(d->shown)) + random_below(r, SLOTS_PER_ATTEMPT);
+    for (; d->len < d->shown; d->len++)
+        d->levels[d->len] = random_below(r, 2);
+}
+
+/* The same bytes with one attempt more or less, with one in another place or of another content, or with some slots of
+   the next one. A broadcast repeats nothing: of one attempt more it shows as many slots as before, or its own too. */
+static void vary_attempt(struct random *r, struct draft *d)
+{
+    size_t shown = d->shown, failed = draw_failed_attempt(r, d);
+    switch (random_below(r, 8)) {
+    case 0:
+    case 1:
+        add_attempt(r, d);
+        if (is_broadcast(d) && random_chance(r, 250))
+            d->shown = shown;
+        break;
+    case 2:
+    case 3:
+        remove_attempt(d, failed);
+        break;
+    case 4:
+    case 5:
+        if (remove_attempt(d, failed))
+            add_attempt(r, d);
+        break;
+    case 6:
+        if (failed < shown)
+            put_failed_attempt(r, d, failed);
+        break;
+    default:
+        cut_in_next_attempt(r, d);
+    }
+}
+
+/* The frame before is said again: exactly, but for one bit, with other attempts, with a bad parity, with another A or
+   with another end. */
 static void vary(struct random *r, struct draft *d)
 {
-    switch (random_below(r, 12)) {
+    if (random_chance(r, 450)) {
+        do
+            vary_attempt(r, d);
+        while (random_chance(r, 200));
+        return;
+    }
+    switch (random_below(r, 11)) {
     case 0:
     case 1:
     case 2:
         flip(d, draw_bit_place(r, d));
         break;
     case 3:
-    case 4:
-        add_attempt(r, d);
-        break;
-    case 5:
         flip(d, draw_p_place(r, d));
         break;
-    case 6:
+    case 4:
+    case 5:
         flip(d, draw_a_place(r, d));
         break;
-    case 7:
+    case 6:
         draw_cut(r, d);
         break;
-    case 8:
+    case 7:
         flip(d, draw_a_place(r, d));
         draw_cut(r, d);
         break;
@@ -297,7 +384,7 @@ static void draw_frames(struct random *r, struct log *log, uint32_t count)
 {
     struct draft d;
     for (uint32_t i = 0; i < count; i++) {
-        if (i > 0 && random_chance(r, 550))
+        if (i > 0 && random_chance(r, 700))
             vary(r, &d);
         else if (random_chance(r, 150))
             draw_zeros(r, &d);
@@ -341,7 +428,7 @@ void draw_log(struct random *r, struct log *log)
     if (random_chance(r, 60))
         draw_noise(r, log);
     else
-        draw_frames(r, log, random_below(r, 6));
+        draw_frames(r, log, random_below(r, 9));
     if (random_chance(r, 150))
         log->len = random_below(r, (uint32_t)log->len + 1);
     if (log->len > 0 && random_chance(r, 60))
