@@ -344,9 +344,8 @@ enum {
    are complete ones, with their A slot; those after the last ACKed byte are all that were made where none was ACKed.
 
    A frame is "again" exactly if the same fields are given as in the record before, and they, the ACKed bytes, the
-   attempts of each byte and those after the last are equal, whatever the endings, P or A. So one whose bytes came
-   through at other attempts has no mark, which it had up to 2.1. The first record never is; the second of two bare
-   starts is. */
+   attempts of each byte and those after the last are equal. The endings, P and A are not compared. Up to 2.1 attempts
+   were not either. The first record never is; the second of two bare starts is. */
 #define IEBUS_RECORD_END(first) ((unsigned)((uint32_t)(first) & 0xF))
 #define IEBUS_RECORD_AGAIN(first) ((unsigned)((uint32_t)(first) >> 4 & 1))
 #define IEBUS_RECORD_BIT(first) ((unsigned)((uint32_t)(first) >> 5 & 1))

@@ -184,22 +184,26 @@ static void extremes(void)
     odd_numbers(broadcast + iebus_record_words(broadcast[0]));
 }
 
-/* One byte at its first attempt, then twice at its second. */
+/* One byte of two, with so many attempts in vain before it and after. */
 static void late_bytes(void)
 {
+    static const struct { unsigned before, after, again; } frames[] = {{0, 0, 0}, {1, 0, 0}, {1, 0, 1}, {1, 1, 0}};
     struct log log;
     log.count = 0;
-    for (unsigned naks = 0, i = 0; i < 3; i++, naks = 1) {
-        put_header(&log, 1, 1);
-        put_bytes(&log, naks, 1);
+    for (unsigned i = 0; i < 4; i++) {
+        put_header(&log, 1, 2);
+        put_bytes(&log, frames[i].before, 1);
         put_bytes(&log, 1, 0);
+        put_bytes(&log, frames[i].after, 1);
     }
     uint32_t records[ROOM];
-    uint64_t frames = 0;
-    iebus_read_log(0, log.slots, log.count, records, ROOM, &frames);
-    const uint32_t *late = records + iebus_record_words(records[0]), *again = late + iebus_record_words(late[0]);
-    check("a byte at another attempt is not said again", frames == 3 && IEBUS_RECORD_AGAIN(late[0]) == 0);
-    check("one at the same attempt is", IEBUS_RECORD_AGAIN(again[0]) == 1);
+    uint64_t count = 0;
+    iebus_read_log(0, log.slots, log.count, records, ROOM, &count);
+    bool marked = count == 4;
+    const uint32_t *record = records;
+    for (unsigned i = 0; i < 4 && marked; i++, record += iebus_record_words(record[0]))
+        marked = IEBUS_RECORD_AGAIN(record[0]) == frames[i].again;
+    check("a frame is said again only with the same attempts", marked);
 }
 
 static void refusals(struct log *log, uint32_t *records)

@@ -43,8 +43,8 @@ module _ (told : Acked → ℕ) (xs ys : List Acked) where
 abbrev pub byteOf : Acked → ℕ
 byteOf a = a .byte
 
-abbrev pub attemptsOf : Acked → ℕ
-attemptsOf a = a .attempts
+abbrev pub tookOf : Acked → ℕ
+tookOf a = a .attempts
 
 module _ (before r : Reading) where
   pub said-exactly : Exactly (equalSaid before r) (SaysSame before r)
@@ -66,12 +66,12 @@ module _ (before r : Reading) where
         rw (given, bytes, same-self (before .given)) (same-self (bytesIn before));
   }
 
-  -- what was equal by ticket 1 is equal exactly if the attempts are
+  -- what was equal by ticket 1 is equal if the attempts are
   pub took-always : equalSaid before r ≡ true → TookSame before r → equalFrames before r ≡ true
   unfolding equalFrames
   took-always e took =
       let many = said-exactly .only e .as-many in
-      let each = by-each attemptsOf (r .text .acked) (before .text .acked) many (took .each) in
+      let each = by-each tookOf (r .text .acked) (before .text .acked) many (took .each) in
       rw (e, each, took .after, same-self (tookIn before)) (eq-eqb (before .text .unacked) _ refl)
 
   pub equal-said : equalFrames before r ≡ true → equalSaid before r ≡ true
@@ -89,7 +89,7 @@ module _ (before r : Reading) where
           said = said-exactly .only said;
           took =
               record {
-                each = at-each attemptsOf (r .text .acked) (before .text .acked) took;
+                each = at-each tookOf (r .text .acked) (before .text .acked) took;
                 after = sym (eqb-true (before .text .unacked) (r .text .unacked) after);
               };
         };

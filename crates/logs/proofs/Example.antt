@@ -2,7 +2,7 @@
 -- attempts, and by frames that end in their header and in their data.
 use mathlib.Core.Bool.{true, false}
 use mathlib.Core.List.{List, [], _∷_, _++_}
-use mathlib.Core.Path.{refl}
+use mathlib.Core.Path.{_≡_, refl}
 use Prim.Native.Nat.{ℕ}
 use native.Mathlib.Omega.{arith}
 use lib.Count.{ones, onesIn}
@@ -14,7 +14,7 @@ use Rattle.logs.specs.Fields.{endIn, givenIn, numberFrom}
 use Rattle.logs.specs.Frames.{framesOf, levelsFrom}
 use Rattle.logs.specs.Readings.{Reading, dataOf, equalFrames, equalSaid, readOf}
 use Rattle.logs.specs.Records.{Record, markedBy, recordsBy}
-use Rattle.logs.specs.Relied.{DataSays, HeaderSays, SaysAgain, TakenApart, TookSame, headerEnd}
+use Rattle.logs.specs.Relied.{DataSays, HeaderSays, SaysAgain, TakenApart, TookSame, frameAt, headerEnd, markAt}
 use Rattle.logs.proofs.Relied.{relied}
 
 -- a frame, and the same again
@@ -38,11 +38,19 @@ unfolding ones onesIn levelOf levelsOf parityOf framesOf levelsFrom recordsBy ma
     dataOf givenIn endIn numberFrom textFrom
 said-again = relied false .again (earlier ++ later) [] first second [] refl .only refl
 
--- a frame that ticket 1 called again, which the numbers of its attempts tell apart
-pub mark-lost : TookSame (said earlier) (said (late 0x7B)) → ⊥
+-- in mode 1, frames that ticket 1 called again: one is so still, and its attempts tell the next one apart
+abbrev heard : List ℕ
+heard = earlier ++ late 0x7B ++ late 0x7B ++ earlier
+
+pub mark-kept : markAt (recordsBy equalSaid true heard) 2 ≡ true
 unfolding ones onesIn levelOf levelsOf parityOf framesOf levelsFrom recordsBy markedBy equalFrames equalSaid readOf
     dataOf givenIn endIn numberFrom textFrom
-mark-lost = relied false .narrower (earlier ++ late 0x7B) .lost 0 refl refl
+mark-kept = relied true .narrower heard .none-new 2 refl
+
+pub mark-lost : TookSame (frameAt true heard 2) (frameAt true heard 3) → ⊥
+unfolding ones onesIn levelOf levelsOf parityOf framesOf levelsFrom recordsBy markedBy equalFrames equalSaid readOf
+    dataOf givenIn endIn numberFrom textFrom
+mark-lost = relied true .narrower heard .lost 2 refl refl
 
 pub second-apart : TakenApart second
 unfolding ones onesIn levelOf levelsOf parityOf framesOf levelsFrom recordsBy markedBy equalFrames equalSaid readOf

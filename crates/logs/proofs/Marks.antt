@@ -1,15 +1,15 @@
 -- The records of some frames: one for each, and the mark of each by the frame before it.
-use mathlib.Core.Bool.{Bool, true, false}
+use mathlib.Core.Bool.{Bool, true, false, false≢true}
 use mathlib.Core.List.{List, [], _∷_, _++_, map}
 use mathlib.Core.Path.{_≡_, refl, ap, subst}
-use Prim.Native.Nat.{ℕ, suc}
+use Prim.Native.Nat.{ℕ, zero, suc, _<_}
 use native.Mathlib.Omega.{arith}
 use lib.Dec.{eqb}
 use lib.ListN.{getD, length}
 use Rattle.line.specs.Choice.{pick}
 use Rattle.line.specs.Numbers.{slotStart}
 use Rattle.logs.specs.Frames.{framesOf, levelsFrom}
-use Rattle.logs.specs.Relied.{lastFrame, remarked}
+use Rattle.logs.specs.Relied.{lastFrame, markAt, remarked}
 use Rattle.logs.specs.Readings.{Reading, equalFrames, readOf}
 use Rattle.logs.specs.Records.{Before, none, frame, Record, againAfter, markedAfter, markedBy}
 
@@ -17,6 +17,44 @@ pub marked-length : (before : Before) (rs : List Reading) → length (markedAfte
 unfolding markedBy
 marked-length before [] = refl
 marked-length before (r ∷ rs) = ap suc (marked-length (frame r) rs)
+
+-- ---- by any meaning of equal frames, at each place
+
+-- marks change nothing else
+pub readings-marked : (equal : Reading → Reading → Bool) (before : Before) (rs : List Reading)
+    → map (λ (r : Record). r .reading) (markedBy equal before rs) ≡ rs
+unfolding markedBy
+readings-marked equal before [] = refl
+readings-marked equal before (r ∷ rs) = ap (λ (l : List Reading). r ∷ l) (readings-marked equal (frame r) rs)
+
+-- behind a frame, the mark at a place is by the frame there and the one before it
+mark-behind : (equal : Reading → Reading → Bool) (past b : Reading) (rs : List Reading) (i : ℕ) → i < length rs
+    → markAt (markedBy equal (frame b) rs) i ≡ equal (getD (b ∷ rs) i past) (getD rs i past)
+unfolding markedBy
+mark-behind equal past b [] i inside = absurd (omega arith)
+mark-behind equal past b (r ∷ rs) zero inside = refl
+mark-behind equal past b (r ∷ rs) (suc i) inside = mark-behind equal past r rs i (omega arith)
+
+pub mark-first : (equal : Reading → Reading → Bool) (rs : List Reading) → markAt (markedBy equal none rs) 0 ≡ false
+unfolding markedBy
+mark-first equal [] = refl
+mark-first equal (r ∷ rs) = refl
+
+pub mark-next : (equal : Reading → Reading → Bool) (past : Reading) (rs : List Reading) (i : ℕ) → suc i < length rs
+    → markAt (markedBy equal none rs) (suc i) ≡ equal (getD rs i past) (getD rs (suc i) past)
+unfolding markedBy
+mark-next equal past [] i inside = absurd (omega arith)
+mark-next equal past (r ∷ rs) i inside = mark-behind equal past r rs i (omega arith)
+
+-- past the last frame there is none
+pub mark-within : (equal : Reading → Reading → Bool) (before : Before) (rs : List Reading) (i : ℕ)
+    → markAt (markedBy equal before rs) i ≡ true → i < length rs
+unfolding markedBy
+mark-within equal before [] i marked = absurd (false≢true marked)
+mark-within equal before (r ∷ rs) zero marked = omega arith
+mark-within equal before (r ∷ rs) (suc i) marked = omega (arith, mark-within equal (frame r) rs i marked)
+
+-- ---- by the present one, in the list
 
 -- records of frames after others are those of the frames alone, save the first mark
 marked-behind : (before : Before) (last : Reading) (rs : List Reading) (r : Reading) (later : List Reading)
@@ -35,12 +73,6 @@ pub marked-cut : (rs : List Reading) (r : Reading) (later : List Reading)
 unfolding lastFrame markedBy remarked
 marked-cut [] r later = refl
 marked-cut (s ∷ rs) r later = marked-behind none s rs r later
-
-pub marked-first : (frames : List Reading) (r : Record) (rs : List Record) → markedAfter none frames ≡ r ∷ rs
-    → r .again ≡ false
-unfolding markedBy
-marked-first [] r rs e = cc
-marked-first (f ∷ frames) r rs e = cc
 
 pub marked-next : (before : Before) (frames : List Reading) (done : List Record) (one r : Record) (rs : List Record)
     → markedAfter before frames ≡ done ++ one ∷ r ∷ rs → r .again ≡ equalFrames (one .reading) (r .reading)

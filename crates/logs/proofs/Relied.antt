@@ -1,7 +1,7 @@
 -- What a user relies on, of every list.
 use mathlib.Core.Bool.{Bool, true, false}
 use mathlib.Core.List.{List, [], _∷_, _++_, map, map-append}
-use mathlib.Core.Path.{_≡_, refl, _∙_}
+use mathlib.Core.Path.{_≡_, refl, sym, ap, _∙_}
 use Prim.Native.Nat.{ℕ, _+_, _≤_}
 use native.Mathlib.Omega.{arith}
 use borrow.Author.Tests.{eqb-true, ltb-true}
@@ -10,8 +10,8 @@ use lib.ListN.{length, length-append, length-map}
 use Rattle.line.specs.Choice.{pick}
 use Rattle.line.specs.Numbers.{slotStart}
 use Rattle.logs.specs.Frames.{framesOf, levelsFrom}
-use Rattle.logs.specs.Relied.{Fresh, Relied}
-use Rattle.logs.specs.Readings.{readOf}
+use Rattle.logs.specs.Relied.{Fresh, Relied, markAt}
+use Rattle.logs.specs.Readings.{equalFrames, readOf}
 use Rattle.logs.specs.Records.{Before, none, frame, Record, againAfter, markedAfter, markedBy, recordsBy}
 use Rattle.logs.specs.Records.{recordsOf, wordsOf}
 use Rattle.logs.proofs.Again.{equal-exactly}
@@ -20,7 +20,7 @@ use Rattle.logs.proofs.Attempts.{data-says}
 use Rattle.logs.proofs.Frames.{all-slots, frames-counted, frames-cut, levels-end, levels-low, list-end}
 use Rattle.logs.proofs.Frames.{no-slot, short-list}
 use Rattle.logs.proofs.Headers.{attempt-says, cut, header-ends, header-says, sent}
-use Rattle.logs.proofs.Marks.{each-record, marked-cut, marked-first, marked-length, marked-next, marked-place}
+use Rattle.logs.proofs.Marks.{each-record, mark-first, marked-cut, marked-length, marked-next, marked-place}
 use Rattle.logs.proofs.Narrower.{narrower}
 use Rattle.logs.proofs.Readings.{Bounded, reading-bounded, record-fits}
 
@@ -74,7 +74,8 @@ relied long = record {
   one-each = λ slots. marked-length none _ ∙ length-map (framesOf slots) (readOf long) ∙ frames-counted slots;
   in-order = λ slots. marked-place long none (framesOf slots);
   fresh = fresh long;
-  first = λ slots. marked-first (map (readOf long) (framesOf slots));
+  first = λ slots r rs e.
+      ap (λ (l : List Record). markAt l 0) (sym e) ∙ mark-first equalFrames (map (readOf long) (framesOf slots));
   again = λ slots done before r rs e.
       rw (marked-next none (map (readOf long) (framesOf slots)) done before r rs e)
       (equal-exactly (before .reading) (r .reading));

@@ -220,6 +220,11 @@ one byte = sized 1 ++ sent byte ack
 abbrev pub late : ℕ → List ℕ
 late byte = sized 1 ++ sent byte nak ++ sent byte ack
 
+-- one of two bytes, each behind so many attempts that got NAK
+abbrev pub two : ℕ → ℕ → List ℕ
+two first second =
+    sized 2 ++ times first (sent 0x7B nak) ++ sent 0x7B ack ++ times second (sent 0x80 nak) ++ sent 0x80 ack
+
 unfoldable pub againCases : List Case
 againCases =
     -- the first never is; each like the one before it is, and none is for an earlier one
@@ -245,15 +250,17 @@ againCases =
     ∷ (read 0 (one 0x7B ++ late 0x7B ++ late 0x7B)
     gives 0 ∷ 3 ∷ individual endWhole 1 1 0 ∷ parties ∷ 0x17B ∷ individual endWhole 1 1 0 ∷ parties ∷ 0x27B
     ∷ again (individual endWhole 1 1 0) ∷ parties ∷ 0x27B ∷ [])
-    ∷ (read 0 (sized 2 ++ sent 0x7B nak ++ sent 0x7B ack ++ sent 0x80 ack ++ sized 2 ++ sent 0x7B ack ++ sent 0x80 nak
-    ++ sent 0x80 ack)
-    gives 0 ∷ 2 ∷ individual endWhole 2 2 0 ∷ parties ∷ 0x27B ∷ 0x180 ∷ individual endWhole 2 2 0 ∷ parties ∷ 0x17B
-    ∷ 0x280 ∷ [])
+    ∷ (read 0 (two 1 0 ++ two 0 1 ++ two 0 0 ++ two 1 0 ++ two 1 1)
+    gives 0 ∷ 5 ∷ individual endWhole 2 2 0 ∷ parties ∷ 0x27B ∷ 0x180 ∷ individual endWhole 2 2 0 ∷ parties ∷ 0x17B
+    ∷ 0x280 ∷ individual endWhole 2 2 0 ∷ parties ∷ 0x17B ∷ 0x180 ∷ individual endWhole 2 2 0 ∷ parties ∷ 0x27B
+    ∷ 0x180 ∷ individual endWhole 2 2 0 ∷ parties ∷ 0x27B ∷ 0x280 ∷ [])
     ∷ (read 0 (sized 2 ++ sent 0x7B ack ++ sized 2 ++ sent 0x7B ack ++ sent 0x80 nak)
     gives 0 ∷ 2 ∷ individual endShort 2 1 0 ∷ parties ∷ 0x17B ∷ individual endShort 2 1 1 ∷ parties ∷ 0x17B ∷ [])
     ∷ (read 0 (sized 2 ++ sent 0x7B nak ++ sized 2 ++ times 2 (sent 0x7B nak))
     gives 0 ∷ 2 ∷ individual endShort 2 0 1 ∷ parties ∷ individual endShort 2 0 2 ∷ parties ∷ [])
-    -- a bad byte of a broadcast is an attempt, too
+    -- a bad byte of a broadcast is an attempt, too, up to the next byte or after the last
+    ∷ (read 0 (spread 2 ++ sent 0x7B nak ++ spread 2 ++ sent 0x7B nak ++ missent 0x80 nak)
+    gives 0 ∷ 2 ∷ broadcast endShort 2 1 0 ∷ parties ∷ 0x17B ∷ broadcast endShort 2 1 1 ∷ parties ∷ 0x17B ∷ [])
     ∷ (read 0 (spread 2 ++ missent 0x80 nak ++ sent 0x7B nak ++ spread 2 ++ sent 0x7B nak ++ missent 0x80 nak)
     gives 0 ∷ 2 ∷ broadcast endShort 2 1 0 ∷ parties ∷ 0x27B ∷ broadcast endShort 2 1 1 ∷ parties ∷ 0x17B ∷ [])
     -- a field that is not given is none that is 0: the bit, the master address, the slave address

@@ -73,7 +73,7 @@ markAt records i = getD (map (λ (r : Record). r .again) records) i false
 abbrev pub frameAt : Bool → List ℕ → ℕ → Reading
 frameAt long slots i = readOf long (getD (framesOf slots) i [])
 
--- a list's records beside those that ticket 1 gave it: the same frames, with marks that say what it says
+-- a list's records beside those that ticket 1 gave it: the same frames, with old marks that say what ticket 1 says
 pub record Narrower (long : Bool) (slots : List ℕ) : Type 0 where
   pub readings : map (λ (r : Record). r .reading) (recordsOf long slots)
       ≡ map (λ (r : Record). r .reading) (recordsBy equalSaid long slots)
@@ -82,7 +82,7 @@ pub record Narrower (long : Bool) (slots : List ℕ) : Type 0 where
       → Exactly (markAt (recordsBy equalSaid long slots) (suc i))
       (SaysSame (frameAt long slots i) (frameAt long slots (suc i)))
   -- "Each mark given under the new meaning was given under the old, and one is lost only where these numbers differ"
-  pub given : (i : ℕ) → markAt (recordsOf long slots) i ≡ true → markAt (recordsBy equalSaid long slots) i ≡ true
+  pub none-new : (i : ℕ) → markAt (recordsOf long slots) i ≡ true → markAt (recordsBy equalSaid long slots) i ≡ true
   pub lost : (i : ℕ) → markAt (recordsBy equalSaid long slots) (suc i) ≡ true
       → markAt (recordsOf long slots) (suc i) ≡ false
       → TookSame (frameAt long slots i) (frameAt long slots (suc i)) → ⊥

@@ -11,18 +11,18 @@ use lib.ListN.{List·getD-eq-default, drop, getD, length, take}
 use lib.Seq.{ext-getD}
 use Rattle.line.proofs.Either.{both}
 use Rattle.line.specs.Cases.{same}
-use Rattle.logs.proofs.Again.{attemptsOf, byteOf, same-lists, same-self}
+use Rattle.logs.proofs.Again.{byteOf, same-lists, same-self, tookOf}
 use Rattle.logs.specs.Data.{Acked, noByte}
 use Rattle.logs.specs.Readings.{Reading, bitIn, bytesIn, controlIn, equalFrames, equalSaid, lengthOf, masterIn}
 use Rattle.logs.specs.Readings.{slaveIn, tookIn}
 use Rattle.logs.specs.Records.{byteWord, secondWord}
 use Rattle.reader.proofs.Parts.{cut}
 use Rattle.reader.specs.declared.entry.Entry.{Entry}
-use Rattle.reader.specs.Entries.{Stands, ackedIn, alikeEntries, alikeFields, bytesFrom, saidOf}
+use Rattle.reader.specs.Entries.{Stands, ackedIn, alikeEntries, alikeFronts, bytesFrom, saidOf}
 
 -- ---- alike_bytes
 
--- the bytes before place i are alike
+-- the bytes before place i are alike, each with its attempts
 pub record Compared (records : List ℕ) (a b count i : ℕ) : Type 0 where
   pub rest : same (bytesFrom records a count) (bytesFrom records b count)
       ≡ same (bytesFrom records (a + i) (count - i)) (bytesFrom records (b + i) (count - i))
@@ -135,7 +135,7 @@ words-apart (x ∷ xs) (y ∷ ys) low lower e =
     ap₂ _∷_ (ap₂ acked-with byte attempts)
     (words-apart xs ys (λ i. low (suc i)) (λ i. lower (suc i)) (ap (drop 1) e))
 
-parts-alike : (xs ys : List Acked) → map byteOf xs ≡ map byteOf ys → map attemptsOf xs ≡ map attemptsOf ys → xs ≡ ys
+parts-alike : (xs ys : List Acked) → map byteOf xs ≡ map byteOf ys → map tookOf xs ≡ map tookOf ys → xs ≡ ys
 parts-alike [] [] bytes attempts = refl
 parts-alike [] (y ∷ ys) bytes attempts = cc
 parts-alike (x ∷ xs) [] bytes attempts = cc
@@ -144,8 +144,8 @@ parts-alike (x ∷ xs) (y ∷ ys) bytes attempts =
     (ap₂ acked-with (ap (λ (l : List ℕ). getD l 0 0) bytes) (ap (λ (l : List ℕ). getD l 0 0) attempts))
     (parts-alike xs ys (ap (drop 1) bytes) (ap (drop 1) attempts))
 
--- entries with alike fields say the same of them
-pub said-alike : (a b : Entry) → alikeFields a b ≡ true → a .said ≡ b .said
+-- entries with alike fronts say the same
+pub said-alike : (a b : Entry) → alikeFronts a b ≡ true → a .said ≡ b .said
 said-alike a b test =
     let (words, addresses) = both (eqb (a .given) (b .given) && eqb (a .said) (b .said)) _ test in
     let (many, said) = both (eqb (a .given) (b .given)) (eqb (a .said) (b .said)) words in
@@ -174,10 +174,10 @@ module _ {r s : Reading} {a b : Entry} {records : List ℕ} (p : Stands r a reco
   to : alikeEntries records a b ≡ true → equalFrames r s ≡ true
   unfolding alikeEntries equalFrames equalSaid
   to test =
-      let (fields, bytes) = both (alikeFields a b) _ test in
-      let (words, addresses) = both (eqb (a .given) (b .given) && eqb (a .said) (b .said)) _ fields in
+      let (fronts, bytes) = both (alikeFronts a b) _ test in
+      let (words, addresses) = both (eqb (a .given) (b .given) && eqb (a .said) (b .said)) _ fronts in
       let (many, _) = both (eqb (a .given) (b .given)) (eqb (a .said) (b .said)) words in
-      let said = said-alike a b fields in
+      let said = said-alike a b fronts in
       let told = sym (p .said) ∙ said ∙ q .said in
       let given = given-told (sym (q .given) ∙ sym (eqb-true _ _ many) ∙ p .given) told
       (sym (p .addresses) ∙ eqb-true (a .addresses) (b .addresses) addresses ∙ q .addresses) in

@@ -2,18 +2,17 @@
 use mathlib.Core.Bool.{Bool, true, false}
 use mathlib.Core.Path.{_≡_, refl, sym, ap, ap₂, _∙_}
 use mathlib.Core.List.{List, [], _∷_, _++_, map}
-use Prim.Native.Nat.{ℕ, suc, _+_, _%_, _<_, _≤_}
+use Prim.Native.Nat.{ℕ, _+_, _<_, _≤_}
 use native.Mathlib.Omega.{arith}
 use borrow.Author.Tests.{le-ltb, lt-ltb}
 use lib.Dec.{ltb}
-use lib.ListN.{drop, getD, length, length-append, length-map, set, take}
+use lib.ListN.{drop, length, length-append, length-map, set, take}
 use lib.Seq.{take-at}
 use Rattle.line.specs.Choice.{pick}
 use Rattle.logs.proofs.Readings.{Bounded, reading-bounded, record-fits}
-use Rattle.logs.specs.Data.{Acked, noByte}
 use Rattle.logs.specs.Fields.{Field, givenIn, header, nakAt, valueIn}
 use Rattle.logs.specs.Frames.{Low}
-use Rattle.logs.specs.Readings.{Reading, bitIn, bytesIn, controlIn, dataOf, lengthOf, masterIn, readOf, slaveIn}
+use Rattle.logs.specs.Readings.{Reading, bitIn, controlIn, dataOf, lengthOf, masterIn, readOf, slaveIn}
 use Rattle.logs.specs.Records.{Before, Record, againAfter, byteWord, firstWord, frame, none, recordWords, wordsBehind}
 use Rattle.reader.proofs.Entries.{entries-alike, none-alike}
 use Rattle.reader.proofs.Parts.{part}

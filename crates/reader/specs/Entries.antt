@@ -16,9 +16,10 @@ use Rattle.reader.specs.Heads.{Values}
 abbrev pub ackedIn : Entry → ℕ
 ackedIn entry = entry .said / 0x8_0000 % 0x40
 
--- whether two entries have the same fields given, with equal values, as many bytes, and as many attempts after them
-abbrev pub alikeFields : Entry → Entry → Bool
-alikeFields a b =
+-- whether two entries have the same fields given, with equal values, as many bytes, and as many attempts after them:
+-- what the words before the bytes say
+abbrev pub alikeFronts : Entry → Entry → Bool
+alikeFronts a b =
     eqb (a .given) (b .given) && eqb (a .said) (b .said) && eqb (a .addresses) (b .addresses)
 
 -- so many words from a place of the records on, each a byte with its attempts
@@ -28,7 +29,7 @@ bytesFrom records place count = take count (drop place records)
 -- whether two entries say the same
 unfoldable pub alikeEntries : List ℕ → Entry → Entry → Bool
 alikeEntries records a b =
-    alikeFields a b && same (bytesFrom records (a .bytes) (ackedIn b)) (bytesFrom records (b .bytes) (ackedIn b))
+    alikeFronts a b && same (bytesFrom records (a .bytes) (ackedIn b)) (bytesFrom records (b .bytes) (ackedIn b))
 
 -- what a first word says of a frame, save its ending and its mark
 abbrev pub saidOf : Reading → ℕ

@@ -3,7 +3,7 @@ ghost use mathlib.Core.Path.{_≡_};
 ghost use Prim.Native.Nat.{_+_, _≤_};
 ghost use lib.ListN.{length};
 ghost use Rattle.line.specs.Cases.{same};
-ghost use Rattle.reader.specs.Entries.{ackedIn, alikeEntries, alikeFields, bytesFrom};
+ghost use Rattle.reader.specs.Entries.{ackedIn, alikeEntries, alikeFronts, bytesFrom};
 use crate::words::ACKED_NUMBERS;
 use crate::words::ACKED_WEIGHT;
 
@@ -24,9 +24,10 @@ pub(crate) fn acked(entry: Entry) -> usize
     (entry.said / ACKED_WEIGHT % ACKED_NUMBERS) as usize
 }
 
-// Whether the same fields are given, they are equal, as many bytes were ACKed, and as many attempts came after these.
-fn alike_fields(a: Entry, b: Entry) -> bool
-    ensures { λ r. ⌜ r ≡ alikeFields a b ⌝ }
+// Whether the same fields are given, they are equal, as many bytes were ACKed, and as many attempts came after these:
+// all that stands before the bytes.
+fn alike_fronts(a: Entry, b: Entry) -> bool
+    ensures { λ r. ⌜ r ≡ alikeFronts a b ⌝ }
 {
     (a.given == b.given) & (a.said == b.said) & (a.addresses == b.addresses)
 }
@@ -56,7 +57,7 @@ pub(crate) fn alike(records: &[u32], before: Entry, entry: Entry) -> bool
 {
     let from = entry.bytes;
     let was = before.bytes;
-    if !alike_fields(before, entry) {
+    if !alike_fronts(before, entry) {
         return false;
     }
     alike_bytes(records, was, from, acked(entry))

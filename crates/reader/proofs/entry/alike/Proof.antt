@@ -14,15 +14,15 @@ alike-spec =
     tie.close
     (tie.spec
     (λ c κs. search needs)
-    (λ c. let fields = c .before .alike-fields in
-    simp (← fields .ensures, not-true (fields .result) (c .if1 .taken)))
+    (λ c. let fronts = c .before .alike-fronts in
+    simp (← fronts .ensures, not-true (fronts .result) (c .if1 .taken)))
     (λ c κs. search needs)
     (λ c κs. let start = c .before .before .before .before in
-    let fields = c .before .before .alike-fields in
+    let fronts = c .before .before .alike-fronts in
     let said = said-alike (start .args .before) (start .args .entry)
-    (sym (fields .ensures) ∙ not-false (fields .result) (c .before .if1 .left)) in
+    (sym (fronts .ensures) ∙ not-false (fronts .result) (c .before .if1 .left)) in
     let count = ap (λ (n : ℕ). n / 0x8_0000 % 0x40) said in
     (omega (arith, c .acked .ensures, count, start .pre .0), omega (arith, c .acked .ensures, start .pre .1)))
-    (λ c. let fields = c .before .before .before .alike-fields in
-    simp (← fields .ensures, not-false (fields .result) (c .before .before .if1 .left), ← c .before .acked .ensures)
+    (λ c. let fronts = c .before .before .before .alike-fronts in
+    simp (← fronts .ensures, not-false (fronts .result) (c .before .before .if1 .left), ← c .before .acked .ensures)
     (c .alike-bytes .ensures)))
