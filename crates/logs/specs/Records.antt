@@ -36,7 +36,7 @@ markedBy equal before (r ∷ rs) =
 unfoldable pub recordsBy : (Reading → Reading → Bool) → Bool → List ℕ → List Record
 recordsBy equal long slots = markedBy equal none (map (readOf long) (framesOf slots))
 
--- the same by what it is now
+-- the same, by what equal frames are now
 abbrev pub againAfter : Before → Reading → Bool
 againAfter = againBy equalFrames
 
