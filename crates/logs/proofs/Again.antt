@@ -66,18 +66,6 @@ module _ (before r : Reading) where
         rw (given, bytes, same-self (before .given)) (same-self (bytesIn before));
   }
 
-  -- what was equal by ticket 1 is equal if the attempts are
-  pub took-always : equalSaid before r ≡ true → TookSame before r → equalFrames before r ≡ true
-  unfolding equalFrames
-  took-always e took =
-      let many = said-exactly .only e .as-many in
-      let each = by-each tookOf (r .text .acked) (before .text .acked) many (took .each) in
-      rw (e, each, took .after, same-self (tookIn before)) (eq-eqb (before .text .unacked) _ refl)
-
-  pub equal-said : equalFrames before r ≡ true → equalSaid before r ≡ true
-  unfolding equalFrames
-  equal-said e = both (equalSaid before r) _ (both (equalSaid before r && same (tookIn before) (tookIn r)) _ e .0) .0
-
   pub equal-exactly : Exactly (equalFrames before r) (SaysAgain before r)
   unfolding equalFrames
   equal-exactly = record {
@@ -93,5 +81,8 @@ module _ (before r : Reading) where
                 after = sym (eqb-true (before .text .unacked) (r .text .unacked) after);
               };
         };
-    always = λ says. took-always (said-exactly .always (says .said)) (says .took);
+    always = λ says.
+        let said = said-exactly .always (says .said) in
+        let each = by-each tookOf (r .text .acked) (before .text .acked) (says .said .as-many) (says .took .each) in
+        rw (said, each, says .took .after, same-self (tookIn before)) (eq-eqb (before .text .unacked) _ refl);
   }

@@ -8,8 +8,8 @@ use lib.ListN.{List·getD-map, getD, length, length-map}
 use Rattle.logs.specs.Frames.{framesOf}
 use Rattle.logs.specs.Readings.{Reading, equalFrames, equalSaid, readOf}
 use Rattle.logs.specs.Records.{none, recordsBy, recordsOf}
-use Rattle.logs.specs.Relied.{Narrower, TookSame, frameAt, markAt, startsIn}
-use Rattle.logs.proofs.Again.{equal-said, said-exactly, took-always}
+use Rattle.logs.specs.Relied.{Exactly, Narrower, TookSame, frameAt, markAt, startsIn}
+use Rattle.logs.proofs.Again.{equal-exactly, said-exactly}
 use Rattle.logs.proofs.Frames.{frames-counted}
 use Rattle.logs.proofs.Marks.{mark-first, mark-next, mark-within, readings-marked}
 
@@ -28,13 +28,19 @@ module _ (long : Bool) (slots : List ℕ) where
   unfolding recordsBy
   mark-at equal i inside = mark-next equal (readOf long []) frames i inside ∙ ap₂ equal (there i) (there (suc i))
 
+  -- a mark says what its meaning of equal says
+  says : (equal : Reading → Reading → Bool) {Says : Reading → Reading → Type 0}
+      → ((before r : Reading) → Exactly (equal before r) (Says before r)) → (i : ℕ) → suc i < length frames
+      → Exactly (markAt (recordsBy equal long slots) (suc i)) (Says (frameAt long slots i) (frameAt long slots (suc i)))
+  says equal exactly i inside =
+      rw (mark-at equal i inside) (exactly (frameAt long slots i) (frameAt long slots (suc i)))
+
   none-new : (i : ℕ) → markAt (recordsOf long slots) i ≡ true → markAt (recordsBy equalSaid long slots) i ≡ true
   unfolding recordsBy
   none-new zero marked = absurd (false≢true (sym (mark-first equalFrames frames) ∙ marked))
   none-new (suc i) marked =
       let inside = mark-within equalFrames none frames (suc i) marked in
-      mark-at equalSaid i inside
-      ∙ equal-said (frameAt long slots i) (frameAt long slots (suc i)) (sym (mark-at equalFrames i inside) ∙ marked)
+      says equalSaid said-exactly i inside .always (says equalFrames equal-exactly i inside .only marked .said)
 
   lost : (i : ℕ) → markAt (recordsBy equalSaid long slots) (suc i) ≡ true
       → markAt (recordsOf long slots) (suc i) ≡ false
@@ -42,9 +48,9 @@ module _ (long : Bool) (slots : List ℕ) where
   unfolding recordsBy
   lost i marked unmarked took =
       let inside = mark-within equalSaid none frames (suc i) marked in
-      let was = sym (mark-at equalSaid i inside) ∙ marked in
-      let is = took-always (frameAt long slots i) (frameAt long slots (suc i)) was took in
-      false≢true (sym unmarked ∙ mark-at equalFrames i inside ∙ is)
+      let said = says equalSaid said-exactly i inside .only marked in
+      let is = says equalFrames equal-exactly i inside .always (record { said = said; took = took }) in
+      false≢true (sym unmarked ∙ is)
 
   pub narrower : Narrower long slots
   unfolding recordsBy
@@ -52,9 +58,7 @@ module _ (long : Bool) (slots : List ℕ) where
       record {
         readings = readings-marked equalFrames none frames ∙ sym (readings-marked equalSaid none frames);
         old-first = mark-first equalSaid frames;
-        old-again = λ i inside.
-            rw (mark-at equalSaid i (omega (arith, inside, counted)))
-            (said-exactly (frameAt long slots i) (frameAt long slots (suc i)));
+        old-again = λ i inside. says equalSaid said-exactly i (omega (arith, inside, counted));
         none-new = none-new;
         lost = lost;
       }
