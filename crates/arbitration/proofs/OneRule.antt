@@ -11,6 +11,7 @@ use lib.Dec.{eqb, leb}
 use lib.ListN.{List·getD-append, List·getD-map, drop, getD, length, length-append, length-map, replicate}
 use Rattle.line.specs.Numbers.{contestSlots, driveStart, highestAddress, lastContestSlot}
 use Rattle.line.proofs.Either.{below-or-not, both, either}
+use Rattle.line.proofs.Places.{getD-map}
 use Rattle.line.specs.Parity.{levelOf}
 use Rattle.contenders.specs.Contest.{Wins, firstOut, firstPlace, inRange, lossOf, lossesOf, nobody, numberOf}
 use Rattle.contenders.specs.Contest.{outOfRange, winnerOf}
@@ -26,7 +27,7 @@ use Rattle.arbitration.specs.Group.{Contending, OneRule, after, contende
 use Rattle.arbitration.specs.Group.{levels, remains, settles}
 use Rattle.arbitration.proofs.Slot.{Stands, answered, number}
 use Rattle.arbitration.proofs.Remaining.{Each, Leads, leaders, leading-levels, map-each, settles-le}
-use Rattle.arbitration.proofs.Remaining.{getD-map, own-settle, under-each}
+use Rattle.arbitration.proofs.Remaining.{own-settle, under-each}
 use Rattle.arbitration.proofs.Winner.{winner-remains, winner-wins}
 use Rattle.arbitration.proofs.Start.{start-same, start-stands}
 

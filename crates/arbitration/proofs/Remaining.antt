@@ -12,6 +12,7 @@ use Rattle.line.specs.Choice.{pick}
 use Rattle.line.specs.Numbers.{lastContestSlot}
 use Rattle.line.specs.Parity.{levelOf}
 use Rattle.line.proofs.Either.{both}
+use Rattle.line.proofs.Places.{getD-map}
 use Rattle.contenders.specs.Contest.{loses, lossOf, numberOf, remaining, settled}
 use Rattle.rules.specs.State.{State}
 use Rattle.rules.specs.Step.{nextDrive, stepOf}
@@ -39,13 +40,6 @@ each-at : (P : State → Type 0) (ss : List State) → Each P ss → (d : State)
 each-at P [] ps d i h = absurd (omega arith)
 each-at P (s ∷ ss) ps d zero h = ps .0
 each-at P (s ∷ ss) ps d (suc i) h = each-at P ss (ps .1) d i (omega arith)
-
--- one place of a list that is made of another
-pub getD-map : {A B : Type 0} (f : A → B) (l : List A) (i : ℕ) (a : A) (b : B) → i < length l
-    → getD (map f l) i b ≡ f (getD l i a)
-getD-map f [] i a b h = absurd (omega arith)
-getD-map f (x ∷ l) zero a b h = refl
-getD-map f (x ∷ l) (suc i) a b h = getD-map f l i a b (omega arith)
 
 -- ---- the settled level
 

@@ -16,6 +16,7 @@ use Rattle.contenders.specs.Contest.{lossOf, lossesOf, winnerOf, Before, Wins}
 use Rattle.contest.specs.Deciding.{differs, differences, Fair, Least}
 use Rattle.contenders.specs.declared.Contender.{Contender}
 use Rattle.line.proofs.Either.{below-or-not, both}
+use Rattle.line.proofs.Places.{getD-map}
 use Rattle.contest.proofs.Places.{first-none, first-is, none-again}
 use Rattle.contest.proofs.Slots.{Close, AllClose, Among, loss-differs, differs-self, differs-none}
 use Rattle.contest.proofs.Slots.{differs-slot}
@@ -59,12 +60,6 @@ among [] i h = absurd (omega arith)
 among (c ∷ cs) zero h = inl refl
 among (c ∷ cs) (suc i) h = inr (among cs i (omega arith))
 
-getD-mapped : (f : Contender → ℕ) (cs : List Contender) (i : ℕ) → i < length cs
-    → getD (map f cs) i 0 ≡ f (getD cs i nobody)
-getD-mapped f [] i h = absurd (omega arith)
-getD-mapped f (c ∷ cs) zero h = refl
-getD-mapped f (c ∷ cs) (suc i) h = getD-mapped f cs i (omega arith)
-
 mapped-alike : (f : ℕ → ℕ) (g : Contender → ℕ) (cs : List Contender)
     → ((i : ℕ) → i < length cs → f (numberOf (getD cs i nobody)) ≡ g (getD cs i nobody))
     → map f (map numberOf cs) ≡ map g cs
@@ -104,7 +99,7 @@ module _ (cs : List Contender) (p : ℕ) (fair : Fair cs) (least : Least cs p) w
   loss-at : (i : ℕ) → i < length cs → getD (lossesOf cs) i 0 ≡ differs 13 w (numberOf (getD cs i nobody))
   unfolding differences
   loss-at i h = ap (λ (l : List ℕ). getD l i 0) losses-are
-      ∙ getD-mapped (λ (c : Contender). differs 13 w (numberOf c)) cs i h
+      ∙ getD-map (λ (c : Contender). differs 13 w (numberOf c)) cs i nobody 0 h
 
   -- no other contender has the winner's number
   unequal : (i : ℕ) → i < length cs → (i ≡ p → ⊥) → numberOf (getD cs i nobody) ≡ w → ⊥

@@ -15,7 +15,7 @@ use Rattle.line.specs.Choice.{bitOf, pick}
 use Rattle.line.specs.Numbers.{rbfBytes, tbfBytes}
 use Rattle.line.proofs.Either.{below-or-not}
 use Rattle.line.proofs.Filled.{Filled, nothing-filled, one-filled, all-filled}
-use Rattle.list_run.proofs.Underway.{cut}
+use Rattle.line.proofs.Places.{cut}
 use Rattle.circles.proofs.Circle.{held-most, items-length}
 use Rattle.circles.proofs.Places.{list-length}
 use Rattle.circles.specs.Circle.{buffer, circleOf, heldOf, items, startOf, wrap}

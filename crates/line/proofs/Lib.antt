@@ -2,3 +2,4 @@
 pub mod Either
 pub mod Levels
 pub mod Filled
+pub mod Places

@@ -25,6 +25,12 @@ abbrev pub kindRefused : ℕ
 kindRefused = 15
 
 -- A slot word: "bits 1-0 are 0 or 1 (settled level), 2 (start), 3 (idle)"
+abbrev pub slotLow : ℕ
+slotLow = 0
+
+abbrev pub slotHigh : ℕ
+slotHigh = 1
+
 abbrev pub slotStart : ℕ
 slotStart = 2
 
@@ -71,6 +77,12 @@ refusedContendersAlike = 15
 
 abbrev pub refusedNoSlot : ℕ
 refusedNoSlot = 16
+
+abbrev pub refusedRanges : ℕ
+refusedRanges = 19
+
+abbrev pub refusedPulse : ℕ
+refusedPulse = 20
 
 -- Refused because of the state
 abbrev pub refusedLevel : ℕ

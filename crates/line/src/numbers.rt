@@ -53,6 +53,10 @@ pub const REFUSED_CONTENDERS_ALIKE: u8 = 15;
 
 pub const REFUSED_NO_SLOT: u8 = 16;
 
+pub const REFUSED_RANGES: u8 = 19;
+
+pub const REFUSED_PULSE: u8 = 20;
+
 // Refused because of the state.
 pub const REFUSED_LEVEL: u8 = 5;
 

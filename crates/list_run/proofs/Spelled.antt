@@ -5,6 +5,7 @@ use Prim.Native.Nat.{ℕ, _+_, _-_, _%_, _≤_, _<_}
 use native.Mathlib.Omega.{arith}
 use lib.ListN.{length, drop, getD, drop-of-length-le}
 use Rattle.line.proofs.Filled.{Filled, nothing-filled, one-filled, all-filled}
+use Rattle.line.proofs.Places.{cut}
 use Rattle.isolation.specs.Runs.{run, answers}
 use Rattle.lent.specs.Both.{Runs, stateIn}
 use Rattle.rules.specs.Machine.{unit}
@@ -18,7 +19,7 @@ use Rattle.list_run.specs.Run.{Whole, unitOver}
 use Rattle.lists.specs.Bytes.{byteRefusal, bytesAfter, bytesOf, bytesOfWord, wordsOf}
 use Rattle.lists.proofs.Called.{taken-whole}
 use Rattle.list_run.specs.Run.{wordAt, wordPut}
-use Rattle.list_run.proofs.Underway.{cut, run-cons, run-nil, answers-cons, answers-nil, whole-after}
+use Rattle.list_run.proofs.Underway.{run-cons, run-nil, answers-cons, answers-nil, whole-after}
 use Rattle.list_run.proofs.Underway.{one-over, over-nil}
 
 -- the words from a place on: the word there, and those from four bytes further on

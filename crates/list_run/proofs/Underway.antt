@@ -2,11 +2,10 @@
 use mathlib.Core.Path.{_≡_, refl, sym, ap, _∙_}
 use mathlib.Core.List.{List, [], _∷_, _++_}
 use Prim.Native.Nat.{ℕ, _+_, _≤_, _<_}
-use native.Mathlib.Numerals.{add-one}
 use native.Mathlib.Omega.{arith}
 use lib.ListN.{length, drop, getD, set, drop-of-length-le}
-use lib.Seq.{drop-cons}
 use Rattle.line.proofs.Filled.{Filled, nothing-filled, one-filled, all-filled}
+use Rattle.line.proofs.Places.{cut}
 use Rattle.isolation.specs.Runs.{run, answers}
 use Rattle.lent.specs.Both.{Left, Runs, stateIn}
 use Rattle.rules.specs.Machine.{unit}
@@ -34,10 +33,6 @@ run-nil s = refl
 pub answers-nil : (s : State) → answers unit s [] ≡ []
 unfolding answers
 answers-nil s = refl
-
--- a list from a place on: what stands there, and the list from the next place on
-pub cut : (ws : List ℕ) (i : ℕ) → i < length ws → drop i ws ≡ getD ws i 0 ∷ drop (i + 1) ws
-cut ws i h = rw (add-one i) (drop-cons ws i 0 h)
 
 -- after i of the words, from the state `s₀` over the answer list `first`: the state is s, the answer list `now`
 pub record Underway (s₀ : State) (words first : List ℕ) (s : State) (now : List ℕ) (i : ℕ) : Type 0 where

@@ -10,13 +10,13 @@ use lib.Dec.{eqb}
 use lib.ListN.{List·getD-eq-default, drop, getD, length, take}
 use lib.Seq.{ext-getD}
 use Rattle.line.proofs.Either.{both}
+use Rattle.line.proofs.Places.{cut}
 use Rattle.line.specs.Cases.{same}
 use Rattle.logs.proofs.Again.{byteOf, same-lists, same-self, tookOf}
 use Rattle.logs.specs.Data.{Acked, noByte}
 use Rattle.logs.specs.Readings.{Reading, bitIn, bytesIn, controlIn, equalFrames, equalSaid, lengthOf, masterIn}
 use Rattle.logs.specs.Readings.{slaveIn, tookIn}
 use Rattle.logs.specs.Records.{byteWord, secondWord}
-use Rattle.reader.proofs.Parts.{cut}
 use Rattle.reader.specs.declared.entry.Entry.{Entry}
 use Rattle.reader.specs.Entries.{Stands, ackedIn, alikeEntries, alikeFronts, bytesFrom, saidOf}
 

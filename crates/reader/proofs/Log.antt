@@ -8,6 +8,7 @@ use borrow.Author.Tests.{eq-eqb, le-ltb, lt-ltb}
 use lib.ListN.{drop, drop-of-length-le, getD, length, length-drop, take}
 use lib.Seq.{drop-drop, length-take-le, take-at}
 use Rattle.line.proofs.Filled.{Filled, all-filled, nothing-filled}
+use Rattle.line.proofs.Places.{cut}
 use Rattle.line.specs.Numbers.{slotStart}
 use Rattle.logs.proofs.Frames.{levels-low}
 use Rattle.logs.proofs.Readings.{record-fits}
@@ -17,7 +18,6 @@ use Rattle.logs.specs.Log.{ReadLog, endOf, writtenOf}
 use Rattle.logs.specs.Readings.{readOf}
 use Rattle.logs.specs.Records.{Before, againAfter, frame, markedAfter, markedBy, none, recordWords, recordsBy}
 use Rattle.logs.specs.Records.{recordsOf, wordsOf}
-use Rattle.reader.proofs.Parts.{cut}
 use Rattle.reader.proofs.Pasting.{paste-behind, paste-end, paste-length}
 use Rattle.reader.proofs.Records.{recordOf}
 use Rattle.reader.specs.declared.entry.Entry.{Entry}

@@ -1,15 +1,11 @@
--- Parts of a list: an element with those behind it, a part by its ends, and a part with one element more.
+-- Parts of a list: a part by its ends, and a part with one element more.
 use mathlib.Core.Path.{_≡_, sym, ap, _∙_}
 use mathlib.Core.List.{List, [], _∷_, _++_}
 use Prim.Native.Nat.{ℕ, _+_, _<_, _≤_}
 use native.Mathlib.Numerals.{add-one}
 use native.Mathlib.Omega.{arith}
 use lib.ListN.{drop, getD, length, take}
-use lib.Seq.{drop-append-le, drop-at, drop-cons, length-take-le, slice, take-add, take-suc}
-
--- from a place on: the element there, and those behind it
-pub cut : (l : List ℕ) (i : ℕ) → i < length l → drop i l ≡ getD l i 0 ∷ drop (i + 1) l
-cut l i more = drop-cons l i 0 more ∙ rw (add-one i)
+use lib.Seq.{drop-append-le, drop-at, length-take-le, slice, take-add, take-suc}
 
 -- so many elements from a place on are those of the front that ends with them
 pub part : (l : List ℕ) (place count : ℕ) → place ≤ length l

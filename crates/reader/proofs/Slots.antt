@@ -15,11 +15,12 @@ use lib.ListN.{List·getD-eq-default, drop, drop-of-length-le, getD, length, len
 use lib.Pow.{pow-mono, pow-pos}
 use lib.Seq.{getD-drop, slice, slice-empty, take-suc}
 use Rattle.line.proofs.Either.{below-or-not, either}
+use Rattle.line.proofs.Places.{cut}
 use Rattle.line.specs.Numbers.{slotIdle, slotStart}
 use Rattle.logs.proofs.Frames.{none-stray, stray-found}
 use Rattle.logs.specs.Fields.{numberFrom}
 use Rattle.logs.specs.Frames.{Low, framesOf, levelsFrom, strayIn}
-use Rattle.reader.proofs.Parts.{cut, part, slice-more}
+use Rattle.reader.proofs.Parts.{part, slice-more}
 use Rattle.reader.specs.Reading.{LevelsAhead, LevelsEnd, NextStart, Overlaid, Within}
 
 -- ---- overlaid

@@ -10,7 +10,7 @@ use lib.ListN.{length}
 use Rattle.line.specs.Numbers.{cmrClearSlre, ctrNothing, ctrReset, ctrSetSlre, kindRead, kindWrite, regCmr, regCtr}
 use Rattle.line.specs.Numbers.{regRbf, regSar1, regSar2, regTbf, regUar1, regUar2}
 use Rattle.line.specs.Slot.{Class, slot, host, classOf, kindOf}
-use Rattle.line.proofs.Either.{both}
+use Rattle.line.proofs.Either.{both, neither}
 use Rattle.isolation.specs.Runs.{run}
 use Rattle.rules.specs.Machine.{unit}
 use Rattle.rules.specs.Registers.{Told, wrote, gave, denied, commanded, lorCopied, mcrWritten, readTold}
@@ -42,10 +42,6 @@ unless true true true e p q = refl
 unless true true false e p q = absurd (false≢true (sym e))
 unless true false c e p q = absurd (false≢true q)
 unless false b c e p q = absurd (false≢true p)
-
-neither : (a b : Bool) → (a || b) ≡ false → (a ≡ false) × (b ≡ false)
-neither true b e = absurd (false≢true (sym e))
-neither false b e = (refl, e)
 
 module _ (r : Registers) where
   Same : Registers → Type 0

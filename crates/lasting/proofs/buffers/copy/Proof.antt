@@ -3,7 +3,7 @@ use native.Mathlib.Omega.{arith}
 use mathlib.Core.Path.{refl}
 use Prim.Native.Nat.{_-_}
 use lib.ListN.{drop, length, drop-of-length-le}
-use Rattle.list_run.proofs.Underway.{cut}
+use Rattle.line.proofs.Places.{cut}
 use Rattle.lasting.proofs.Parts.{Filling, none-put, one-put, all-put}
 use Rattle.lasting.proofs.buffers.copy.Statement.{statement}
 use Rattle.lasting.proofs.buffers.copy.Tie as tie
