@@ -5,11 +5,10 @@ use mathlib.Core.Logic.{⊎-elim}
 use mathlib.Core.Path.{_≡_, _∙_, ap, sym, refl}
 use mathlib.Core.List.{List, [], _∷_, _++_, append-assoc}
 use Prim.Native.Nat.{ℕ, zero, suc, _+_, _*_, _-_, _≤_, min, _/_, _%_}
-use native.Mathlib.Numerals.{add-one}
 use native.Mathlib.Omega.{arith}
 use borrow.Author.Tests.{le-ltb}
 use lib.Dec.{eqb, ltb}
-use lib.ListN.{length, take, drop, length-append, length-take}
+use lib.ListN.{length, take, drop, length-take}
 use lib.Seq.{append-snoc, take-all, take-take}
 use Rattle.line.specs.Choice.{bitOf, pick}
 use Rattle.line.specs.Numbers.{slotStart}
@@ -23,9 +22,11 @@ use Rattle.logs.specs.Records.{Record, firstWord, recordWords, recordsOf}
 use Rattle.logs.specs.Records.{wordsOf as recordsWords}
 use Rattle.text.specs.declared.last.Last.the-variants.{Nothing, Short, More}
 use Rattle.text.specs.Last.{lastText}
+use Rattle.words.specs.Words.{wordAt, wordsOf}
+use Rattle.words.proofs.Placed.{placed-length}
 use Rattle.iebus_dump.specs.Line.{frameOf, lineOf}
 use Rattle.iebus_dump.specs.Dump.{dumpOf, header, lastOf, linesOf, mostWords, refused, slotsOf, startsFrom}
-use Rattle.iebus_dump.specs.Dump.{wholeOf, wordsOf}
+use Rattle.iebus_dump.specs.Dump.{wholeOf}
 use Rattle.iebus_dump.specs.Writing.{Put, ackedBy, aheadBy, fitting, frameIn, lastAt, lastBy, linesIn}
 use Rattle.iebus_dump.specs.Writing.{shownBy, slotLine, textBy, usedBy}
 use Rattle.iebus_dump.proofs.Frames.{Sound, line-right, past-right}
@@ -114,13 +115,6 @@ lines-right (w ∷ ws) more rs place sounds count =
     ⊎-elim (at-start w place ws more rs (lines-right ws more) sounds count)
     (at-other w place ws more rs (lines-right ws more) sounds count) (either (eqb w slotStart))
 
-words-length : (input : List ℕ) (n : ℕ) → length (wordsOf input n) ≡ n
-unfolding wordsOf
-words-length input zero = refl
-words-length input (suc n) =
-    let shorter : length (wordsOf input n) ≡ n = words-length input n in
-    length-append (wordsOf input n) _ ∙ omega (arith, add-one n)
-
 -- the words of an input that a list of so many places takes
 pub slots-made : (input words : List ℕ) {n room : ℕ} → n ≡ min (length input / 4) room → room ≡ mostWords
     → take n words ≡ wordsOf input n → take (n - 0) words ≡ slotsOf input
@@ -132,7 +126,7 @@ slots-made input words {n} {room} count is front =
 
 slots-count : (input : List ℕ) → length (slotsOf input) ≡ min (length input / 4) mostWords
 unfolding slotsOf
-slots-count input = words-length input (min (length input / 4) mostWords)
+slots-count input = placed-length (wordAt input) (min (length input / 4) mostWords)
 
 pub slots-length : (input : List ℕ) → length (slotsOf input) ≤ mostWords
 slots-length input = omega (arith, slots-count input)

@@ -8,14 +8,12 @@ use native.Mathlib.Numerals.{add-one}
 use native.Mathlib.Omega.{arith}
 use borrow.Author.Tests.{eq-eqb}
 use lib.ListN.{length, take, drop, getD, set, length-drop, drop-of-length-le}
-use lib.Seq.{drop-cons, drop-drop, take-all, take-suc, take-suc-set}
+use lib.Seq.{drop-cons, drop-drop, take-all, take-suc}
 use Rattle.line.specs.Choice.{pick}
 use Rattle.line.specs.Numbers.{slotStart}
 use Rattle.line.proofs.Either.{below-or-not}
 use Rattle.text.specs.Hex.{digitOf, hexOf}
-use Rattle.text.specs.Listing.{wordAt}
 use Rattle.iebus_dump.specs.Line.{bytesColumn, endingColumn, fieldsOf, lineOf, markColumn}
-use Rattle.iebus_dump.specs.Dump.{wordsOf}
 use Rattle.iebus_dump.specs.Writing.{LinesUpTo, Put, ackedBy, aheadBy, frameBy, frameIn, linesIn}
 use Rattle.iebus_dump.specs.Writing.{slotLine, usedBy}
 use Rattle.iebus_dump.proofs.Digits.{hex-two}
@@ -106,19 +104,6 @@ line-made place slot words {first} {second} {bytes} starts is-first is-second is
     ∙ ap (λ (n : ℕ). lineOf place (frameBy first n (take (ackedBy first) (drop (aheadBy first) words)))) is-second
     ∙ ap (λ (n : ℕ). lineOf place (frameBy n (getD words 1 0) (take (ackedBy n) (drop (aheadBy n) words)))) is-first
     ∙ ap (λ (b : Bool). pick b (lineOf place (frameIn words)) []) (sym (eq-eqb slot slotStart starts))
-
--- a word more of an input
-pub words-more : (input words : List ℕ) {i word : ℕ} → take i words ≡ wordsOf input i → i < length words
-    → word ≡ wordAt input i → take (i + 1) (set words i word) ≡ wordsOf input (i + 1)
-unfolding wordsOf
-words-more input words {i} {word} is more reads =
-    ap (λ (n : ℕ). take n (set words i word)) (add-one i) ∙ take-suc-set words i word more
-    ∙ ap (λ (l : List ℕ). l ++ word ∷ []) is ∙ ap (λ (w : ℕ). wordsOf input i ++ w ∷ []) reads
-    ∙ ap (wordsOf input) (sym (add-one i))
-
-pub no-words : (input : List ℕ) → [] ≡ wordsOf input 0
-unfolding wordsOf
-no-words input = refl
 
 -- the lines from a place on: what is written for the word there, and the lines behind it
 next-line : (slots words : List ℕ) (i : ℕ) → i < length slots

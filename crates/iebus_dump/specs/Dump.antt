@@ -1,7 +1,7 @@
 -- What is printed for an input: a header, a line for each frame, a last line.
 use mathlib.Core.Bool.{Bool}
 use mathlib.Core.List.{List, [], _∷_, _++_}
-use Prim.Native.Nat.{ℕ, zero, suc, _+_, _*_, _/_, _%_, min}
+use Prim.Native.Nat.{ℕ, suc, _+_, _*_, _/_, _%_, min}
 use lib.Dec.{eqb, ltb}
 use lib.ListN.{length, take}
 use Rattle.line.specs.Choice.{pick}
@@ -11,17 +11,12 @@ use Rattle.logs.specs.Records.{Record, recordsOf}
 use Rattle.text.specs.declared.last.Last.{Last}
 use Rattle.text.specs.declared.last.Last.the-variants.{Nothing, Short, More}
 use Rattle.text.specs.Last.{lastText}
-use Rattle.text.specs.Listing.{wordAt}
+use Rattle.words.specs.Words.{wordsOf}
 use Rattle.iebus_dump.specs.Line.{bytesOf, frameOf, lineOf}
 
 -- at most so many words are read
 abbrev pub mostWords : ℕ
 mostWords = 16384
-
--- the first words of an input, little-endian
-unfoldable pub wordsOf : List ℕ → ℕ → List ℕ
-wordsOf input zero = []
-wordsOf input (suc n) = wordsOf input n ++ wordAt input n ∷ []
 
 -- the slot words of an input
 unfoldable pub slotsOf : List ℕ → List ℕ

@@ -15,15 +15,14 @@ mod columns;
 mod lines;
 mod put;
 mod whole;
-mod words;
 
 use crate::whole::last_number;
 use crate::whole::put_dump;
 use crate::whole::shown;
-use crate::words::put_words;
 use libc::STDIN_FILENO;
 use libc::STDOUT_FILENO;
 use reader::read_log;
+use words::put_words;
 
 // At most so many words are read.
 const MOST_WORDS: usize = 16384;

@@ -6,7 +6,7 @@ ghost use Rattle.iebus_dump.specs.Writing.{Put, lastBy, shownBy, textBy}
 use crate::lines::put_lines;
 use crate::put::put;
 use logs::LogRead;
-use text::last::WORD_BYTES;
+use words::WORD_BYTES;
 
 // The bytes of the words that are read.
 const MOST_BYTES: usize = 65536;

@@ -10,10 +10,10 @@ use libc::STDIN_FILENO;
 use libc::STDOUT_FILENO;
 use list_run::bytes::run_bytes;
 use text::last::MOST_BYTES;
-use text::last::WORD_BYTES;
 use text::listing::LISTING_BYTES;
 use text::listing::listing;
 use unit::step::Unit;
+use words::WORD_BYTES;
 
 // One byte more than is listed, so that a byte that follows is seen.
 const INPUT_BYTES: usize = 16385;

@@ -11,7 +11,8 @@ use Rattle.text.specs.Hex.{lineOf}
 use Rattle.text.specs.declared.last.Last.{Last}
 use Rattle.text.specs.declared.last.Last.the-variants.{Nothing}
 use Rattle.text.specs.Last.{lastOf, lastText}
-use Rattle.text.specs.Listing.{header, linesOf, listedOf, listingBytes, listingOf, wordAt, wordsListed}
+use Rattle.words.specs.Words.{wordAt}
+use Rattle.text.specs.Listing.{header, linesOf, listedOf, listingBytes, listingOf, wordsListed}
 use Rattle.text.specs.Writing.{LinesUpTo, LinesIn, pasted}
 use Rattle.text.proofs.Digits.{line-length}
 use Rattle.text.proofs.Pasting.{behind}

@@ -3,16 +3,11 @@
 use mathlib.Core.List.{List, [], _∷_, _++_}
 use Prim.Native.Nat.{ℕ, zero, suc, _+_, _*_, _/_}
 use lib.Dec.{ltb}
-use lib.ListN.{length, getD}
+use lib.ListN.{length}
 use Rattle.line.specs.Choice.{pick}
+use Rattle.words.specs.Words.{wordAt}
 use Rattle.text.specs.Hex.{lineOf}
 use Rattle.text.specs.Last.{mostBytes, lastOf, lastText}
-
--- the word at a place of a list of little-endian words; a byte past the list's end counts as 0
-abbrev pub wordAt : List ℕ → ℕ → ℕ
-wordAt bytes place =
-    getD bytes (place * 4) 0 + getD bytes (place * 4 + 1) 0 * 0x100 + getD bytes (place * 4 + 2) 0 * 0x1_0000
-    + getD bytes (place * 4 + 3) 0 * 0x100_0000
 
 -- how many words of an input of so many bytes are listed
 abbrev pub wordsListed : ℕ → ℕ

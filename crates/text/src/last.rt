@@ -1,9 +1,7 @@
 // The last line: "a last line `more` if any byte follows the 4,096th word, else `short` for 1 to 3 bytes left over".
 ghost use mathlib.Core.Path.{_≡_};
 ghost use Rattle.text.specs.Last.{lastOf};
-
-// How many bytes spell a word.
-pub const WORD_BYTES: usize = 4;
+use words::WORD_BYTES;
 
 // Every word that is read is listed, up to this many bytes of input: 4,096 words.
 pub const MOST_BYTES: usize = 16384;

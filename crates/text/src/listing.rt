@@ -3,14 +3,15 @@ ghost use mathlib.Core.Path.{_≡_};
 ghost use mathlib.Core.List.{_++_};
 ghost use Prim.Native.Nat.{_+_, _<_, _≤_};
 ghost use lib.ListN.{length, drop, getD};
-ghost use Rattle.text.specs.Listing.{listedOf, wordAt, wordsListed};
+ghost use Rattle.words.specs.Words.{wordAt};
+ghost use Rattle.text.specs.Listing.{listedOf, wordsListed};
 ghost use Rattle.text.specs.Writing.{LinesIn, pasted};
 use crate::hex::LINE_BYTES;
 use crate::hex::line;
 use crate::last::Last;
 use crate::last::MOST_BYTES;
-use crate::last::WORD_BYTES;
 use crate::last::last_line;
+use words::WORD_BYTES;
 
 // "word answer" and the line's end.
 const HEADER_BYTES: usize = 12;
