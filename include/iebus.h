@@ -1,5 +1,5 @@
-/* An IEBus unit (the uPD72042A and B on layers 1 and 2), the contest of several masters and a reader of line logs, for
-   a host in C or C++.
+/* An IEBus unit (the uPD72042A and B on layers 1 and 2), the contest of several masters, slots from measured pulses and
+   a reader of line logs, for a host in C or C++.
 
    A host owns one state for each unit on its board and talks to it in words of 32 bits, one word for each slot of the
    line and one for each access to a register; each word has one answer. After each answer the host knows what the unit
@@ -38,7 +38,7 @@ extern "C" {
 #define IEBUS_STATE_BYTES 119
 
 /* Given by iebus_unit_reset and iebus_unit_run where the state has another size than that. It is no number of the
-   bus's rules, which end at 16. */
+   bus's rules, which end at 20. */
 #define IEBUS_BAD_STATE_SIZE 100
 
 /* Makes a state that of a reset unit: no address, nothing requested, buffers empty, unlocked, waiting for a start.
@@ -114,6 +114,26 @@ static inline unsigned iebus_contest_place(uint32_t result)
      16 IEBUS_REFUSED_NO_SLOT      a word is over 3, wherever it stands */
 uint32_t iebus_read_log(uint32_t mode, const uint32_t *slots, size_t slots_len, uint32_t *records, size_t records_len,
                         uint64_t *frames);
+
+/* A range of widths and a measured pulse, each as one word: the least and the most tick count, 0 to 65,535. */
+#define IEBUS_RANGE(least, most) ((uint32_t)(least) | (uint32_t)(most) << 16)
+#define IEBUS_PULSE(least, most) ((uint32_t)(least) | (uint32_t)(most) << 16)
+
+/* The slots of measured pulses: slots[i] is the slot word of pulses[i], as iebus_read_log takes them. A pulse becomes
+   IEBUS_SLOT_LOW, IEBUS_SLOT_HIGH or IEBUS_SLOT_START exactly if all widths from its least to its most lie in the range
+   `zero`, `one` or `start`; else, where the measurement leaves a doubt, it becomes IEBUS_SLOT_IDLE, which ends a frame.
+   So whatever the true widths were, exact measuring would have given the same slot at each place that is not idle.
+
+   A range has both its ends. The three share no tick; they may stand in any order, with gaps between them or without,
+   and a range may be one width. Places past the last slot keep their contents. Lists are of uint32_t in the host's own
+   order, and their lengths count words.
+
+   Gives 0 or, with nothing written, the first that applies of
+     12 IEBUS_REFUSED_SHORT_LIST   slots_len is less than pulses_len
+     19 IEBUS_REFUSED_RANGES       a range has its least above its most, or two ranges share a tick
+     20 IEBUS_REFUSED_PULSE        a pulse has its least above its most, wherever it stands */
+uint32_t iebus_slots(uint32_t zero, uint32_t one, uint32_t start, const uint32_t *pulses, size_t pulses_len,
+                     uint32_t *slots, size_t slots_len);
 
 /* ---- words: the kind is in the top four bits */
 
@@ -200,7 +220,9 @@ enum {
     IEBUS_REFUSED_CONTENDER_COUNT = 13,
     IEBUS_REFUSED_CONTENDER_RANGE = 14,
     IEBUS_REFUSED_CONTENDERS_ALIKE = 15,
-    IEBUS_REFUSED_NO_SLOT = 16
+    IEBUS_REFUSED_NO_SLOT = 16,
+    IEBUS_REFUSED_RANGES = 19,
+    IEBUS_REFUSED_PULSE = 20
 };
 
 /* ---- registers that are written */

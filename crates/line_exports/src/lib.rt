@@ -1,13 +1,22 @@
 // What a host in C calls of the line as a whole, for which it needs no unit: each function hands on to a library below,
 // whose contract it keeps. No function has a `requires`, and nothing is assumed.
+ghost use mathlib.Core.Path.{_≡_};
 ghost use Rattle.contenders.specs.Contest.{ContestedWord, NamedRightly, contendersOf, verdictIn};
 ghost use Rattle.logs.specs.Log.{CalledLog, longIn};
 ghost use Rattle.logs.specs.Relied.{Relied};
+ghost use Rattle.pulses.specs.Conversion.{CalledSlots, numberOf, rangeIn, settingIn};
+ghost use Rattle.pulses.specs.Relied.{Relied as ReliedPulses};
+use capture::slots_of_pulses;
 use contenders::Contender;
 use contenders::Contenders;
 use line::numbers::REFUSED_NO_SLOT;
+use line::numbers::REFUSED_PULSE;
+use line::numbers::REFUSED_RANGES;
 use line::numbers::REFUSED_SHORT_LIST;
 use logs::LogRead;
+use pulses::Measured;
+use pulses::Range;
+use pulses::Setting;
 use reader::read_log;
 use records::gathered;
 
@@ -56,4 +65,52 @@ pub extern "C" fn iebus_read_log(
         LogRead::ShortList => REFUSED_SHORT_LIST as u32,
         LogRead::NoSlot => REFUSED_NO_SLOT as u32,
     }
+}
+
+// A range as one word: the least in the lower half, the most in the upper.
+fn range(word: u32) -> Range
+    ensures { λ r. ⌜ r ≡ rangeIn word ⌝ }
+{
+    Range {
+        least: (word % WORD_HALF) as u16,
+        most: (word / WORD_HALF) as u16,
+    }
+}
+
+fn setting(zero: u32, one: u32, start: u32) -> Setting
+    ensures { λ r. ⌜ r ≡ settingIn zero one start ⌝ }
+{
+    Setting {
+        zero: range(zero),
+        one: range(one),
+        start: range(start),
+    }
+}
+
+fn measured_number(measured: Measured) -> u32
+    ensures { λ r. ⌜ r ≡ numberOf measured ⌝ }
+{
+    match measured {
+        Measured::Given => 0,
+        Measured::ShortList => REFUSED_SHORT_LIST as u32,
+        Measured::BadRanges => REFUSED_RANGES as u32,
+        Measured::BadPulse => REFUSED_PULSE as u32,
+    }
+}
+
+// A slot word for each measured pulse: 0, or 12, 19 or 20.
+#[no_mangle]
+pub extern "C" fn iebus_slots(
+    zero: u32,
+    one: u32,
+    start: u32,
+    pulses: &[u32],
+    slots: &mut [u32],
+) -> u32
+    ensures whole { λ r. ⌜ CalledSlots (settingIn zero one start) (now (pulses .entry)) (now (slots .entry)) r
+        (now (slots .exit)) ⌝ }
+    ensures relied { λ _. ⌜ ReliedPulses (settingIn zero one start) ⌝ }
+{
+    let measured = slots_of_pulses(setting(zero, one, start), pulses, slots);
+    measured_number(measured)
 }
