@@ -306,7 +306,8 @@ static inline void count_slots(struct pulse_reach *reach, const struct capture *
 /* A symbol with itself is no ordered pair. */
 static inline bool is_pulse_item(unsigned first, unsigned item)
 {
-    bool ordered = first == ORDERS || first == NEIGHBOURS_TAKEN || first == OVER_TWO_NEIGHBOURS || first == INTO_ANOTHER;
+    bool ordered = first == ORDERS || first == NEIGHBOURS_TAKEN || first == OVER_TWO_NEIGHBOURS
+                   || first == INTO_ANOTHER;
     return !ordered || item / SYMBOLS != item % SYMBOLS;
 }
 
