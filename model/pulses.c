@@ -15,7 +15,7 @@ static bool least_above_most(uint32_t widths)
     return least_of(widths) > most_of(widths);
 }
 
-/* "two that meet" share a tick, and the first one that they share is the least of one of them. Neighbours share none. */
+/* "two that meet" share a tick, and the first that they share is the least of one of them. Neighbours share none. */
 static bool meet(uint32_t a, uint32_t b)
 {
     return holds(a, least_of(b)) || holds(b, least_of(a));
