@@ -84,5 +84,6 @@ int main(void)
     striking();
     life();
     logs();
+    pulses();
     return cases_failed > 0;
 }

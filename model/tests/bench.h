@@ -33,5 +33,6 @@ void circles(void);
 void striking(void);
 void life(void);
 void logs(void);
+void pulses(void);
 
 #endif
