@@ -1,0 +1,82 @@
+-- The slots of an input, as the code makes them.
+use mathlib.Core.List.{List, _++_}
+use mathlib.Core.Path.{_≡_, refl, sym, ap, _∙_}
+use Prim.Native.Nat.{ℕ, _*_, _-_, _/_, _≤_, min}
+use native.Mathlib.Omega.{arith}
+use lib.ListN.{drop, length, length-map, take}
+use lib.Seq.{take-at}
+use Rattle.pulses.specs.declared.Measured.{Measured}
+use Rattle.pulses.specs.declared.Measured.the-variants.{Given, ShortList, BadRanges, BadPulse}
+use Rattle.pulses.specs.declared.Setting.{Setting}
+use Rattle.pulses.specs.Conversion.{Converted, endOf, writtenOf}
+use Rattle.words.specs.Words.{byteAt, bytesOf, wordAt, wordsOf}
+use Rattle.words.proofs.Placed.{placed-length}
+use Rattle.iebus_slots.specs.Output.{givenOf, measuredOf, mostPulses, outputOf, pulsesOf, slotsFor}
+
+-- the pulses that a list of so many places takes
+pub pulses-read : (input list rest : List ℕ) {count room : ℕ} → count ≡ min (length input / 4) room
+    → room ≡ mostPulses → list ≡ wordsOf input count ++ rest → take (count - 0) list ≡ pulsesOf input
+unfolding pulsesOf
+pulses-read input list rest {count} {room} counted is front =
+    let all : count - 0 ≡ count = omega arith in
+    let read : count ≡ min (length input / 4) mostPulses = omega arith in
+    ap (λ (k : ℕ). take k list) all ∙ ap (take count) front
+    ∙ take-at (wordsOf input count) rest count (placed-length (wordAt input) count) ∙ ap (wordsOf input) read
+
+pub pulses-count : (input : List ℕ) → length (pulsesOf input) ≡ min (length input / 4) mostPulses
+unfolding pulsesOf
+pulses-count input = placed-length (wordAt input) (min (length input / 4) mostPulses)
+
+given-count : (s : Setting) (m : Measured) (pulses : List ℕ) → length (writtenOf s m pulses) ≡ givenOf m (length pulses)
+unfolding writtenOf
+given-count s Given pulses = length-map pulses _
+given-count s ShortList pulses = refl
+given-count s BadRanges pulses = refl
+given-count s BadPulse pulses = refl
+
+given-least : (m : Measured) (count : ℕ) → givenOf m count ≤ count
+given-least Given count = omega arith
+given-least ShortList count = omega arith
+given-least BadRanges count = omega arith
+given-least BadPulse count = omega arith
+
+pub slots-fit : (s : Setting) (input : List ℕ) → length (slotsFor s input) ≤ mostPulses
+slots-fit s input =
+    let m = measuredOf s input in
+    omega (arith, given-count s m (pulsesOf input), given-least m (length (pulsesOf input)), pulses-count input)
+
+-- those of them that a list has at its front
+pub slots-made : (s : Setting) (input before after : List ℕ) {m : Measured} {count end : ℕ}
+    → Converted s (pulsesOf input) before m after → length before ≡ mostPulses → count ≡ length (pulsesOf input)
+    → end ≡ givenOf m count → (m ≡ measuredOf s input) × (take (end - 0) after ≡ slotsFor s input)
+slots-made s input before after {m} {count} {end} c room counted is =
+    let measured : m ≡ measuredOf s input = c .ends ∙ ap (λ (n : ℕ). endOf s n (pulsesOf input)) room in
+    let all : end - 0 ≡ end = omega arith in
+    let long : length (writtenOf s m (pulsesOf input)) ≡ end =
+    given-count s m (pulsesOf input) ∙ ap (givenOf m) (sym counted) ∙ sym is
+    in (
+      measured,
+      ap (λ (k : ℕ). take k after) all ∙ ap (take end) (c .written) ∙ take-at (writtenOf s m (pulsesOf input)) _ end long
+          ∙ ap (λ (r : Measured). writtenOf s r (pulsesOf input)) measured,
+    )
+
+-- and their bytes, as they stand in a list
+pub record Made (s : Setting) (input before : List ℕ) (count : ℕ) (after : List ℕ) : Type 0 where
+  pub counted : count ≡ length (outputOf s input (length before))
+  pub written : after ≡ outputOf s input (length before) ++ drop count before
+  pub within : count ≤ length before
+
+pub output-made : (s : Setting) (input slots before after : List ℕ) {words : ℕ} → slots ≡ slotsFor s input
+    → words ≡ min (length slots) (length before / 4) → after ≡ bytesOf slots (words * 4) ++ drop (words * 4) before
+    → Made s input before (words * 4) after
+unfolding outputOf
+output-made s input slots before after {words} is counted put =
+    let many : words ≡ min (length (slotsFor s input)) (length before / 4) =
+    counted ∙ ap (λ (l : List ℕ). min (length l) (length before / 4)) is
+    in
+    record {
+      counted = ap (λ (n : ℕ). n * 4) many ∙ sym (placed-length (byteAt (slotsFor s input)) _);
+      written = put ∙ ap (λ (l : List ℕ). bytesOf l (words * 4) ++ drop (words * 4) before) is
+          ∙ ap (λ (n : ℕ). bytesOf (slotsFor s input) (n * 4) ++ drop (words * 4) before) many;
+      within = omega (arith, counted);
+    }

@@ -1,0 +1,96 @@
+// The program `iebus_slots`: it reads measured pulses from standard input, 32 bits each, little-endian, the least of a
+// pulse in the lower half and the most in the upper, and writes the slot word of each, little-endian too, as
+// `iebus_dump` reads them. The arguments are the least and the most width for 0, for 1 and for start. What it writes is
+// made by `converted`, whose contract says all of it.
+//
+// Only the first 16,384 pulses are read. What there is to say goes to standard error: `refused 19` or `refused 20`, and
+// then nothing is written; `more` where any byte follows the last pulse that is read, `short` for 1 to 3 bytes left
+// over; or how to call the program. The status is 0 whatever the pulses are.
+mod arguments;
+mod output;
+
+use crate::arguments::Asked;
+use crate::arguments::setting_asked;
+use crate::output::Message;
+use crate::output::converted;
+use libc::STDERR_FILENO;
+use libc::STDIN_FILENO;
+use libc::STDOUT_FILENO;
+use pulses::Setting;
+
+// One byte more than is read, so that a byte that follows is seen.
+const INPUT_BYTES: usize = 65537;
+
+// Room for the slots of all pulses that are read.
+const SLOT_BYTES: usize = 65536;
+
+// The longest number of five digits; a longer argument is none.
+const ARGUMENT_BYTES: usize = 5;
+
+fn say(message: Message) {
+    match message {
+        Message::Nothing => {}
+        Message::Short => {
+            io::write_all(STDERR_FILENO, b"short\n");
+        }
+        Message::More => {
+            io::write_all(STDERR_FILENO, b"more\n");
+        }
+        Message::BadRanges => {
+            io::write_all(STDERR_FILENO, b"refused 19\n");
+        }
+        Message::BadPulse => {
+            io::write_all(STDERR_FILENO, b"refused 20\n");
+        }
+    }
+}
+
+// Where nobody reads what is written, nothing is left to do.
+fn print(setting: Setting, input: &[u8], slots: &mut [u8]) {
+    let outcome = converted(setting, input, slots);
+    let count = outcome.count;
+    let message = outcome.message;
+    io::write_all(STDOUT_FILENO, &slots[0..count]);
+    say(message);
+}
+
+fn convert(setting: Setting) {
+    let mut input = [0u8; INPUT_BYTES];
+    let mut slots = [0u8; SLOT_BYTES];
+    let count = io::read_full(STDIN_FILENO, &mut input);
+    print(setting, &input[..count], &mut slots);
+}
+
+fn explain() {
+    io::write_all(
+        STDERR_FILENO,
+        b"usage: iebus_slots ZERO-LEAST ZERO-MOST ONE-LEAST ONE-MOST START-LEAST START-MOST <PULSES >SLOTS\n",
+    );
+}
+
+fn main() {
+    let mut zero_least = [0u8; ARGUMENT_BYTES];
+    let mut zero_most = [0u8; ARGUMENT_BYTES];
+    let mut one_least = [0u8; ARGUMENT_BYTES];
+    let mut one_most = [0u8; ARGUMENT_BYTES];
+    let mut start_least = [0u8; ARGUMENT_BYTES];
+    let mut start_most = [0u8; ARGUMENT_BYTES];
+    let a = os::arg(1, &mut zero_least);
+    let b = os::arg(2, &mut zero_most);
+    let c = os::arg(3, &mut one_least);
+    let d = os::arg(4, &mut one_most);
+    let e = os::arg(5, &mut start_least);
+    let f = os::arg(6, &mut start_most);
+    let setting = setting_asked(
+        &zero_least[..a],
+        &zero_most[..b],
+        &one_least[..c],
+        &one_most[..d],
+        &start_least[..e],
+        &start_most[..f],
+    );
+    match setting {
+        Asked::Given(setting) => convert(setting),
+        Asked::Missing => explain(),
+    }
+}
