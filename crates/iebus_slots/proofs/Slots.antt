@@ -1,17 +1,20 @@
 -- The slots of an input, as the code makes them.
-use mathlib.Core.List.{List, _++_}
+use mathlib.Core.List.{List, [], _∷_, _++_}
 use mathlib.Core.Path.{_≡_, refl, sym, ap, _∙_}
-use Prim.Native.Nat.{ℕ, _*_, _-_, _/_, _≤_, min}
+use Prim.Native.Nat.{ℕ, zero, suc, _*_, _-_, _/_, _^_, _<_, _≤_, min}
 use native.Mathlib.Omega.{arith}
-use lib.ListN.{drop, length, length-map, take}
-use lib.Seq.{take-at}
+use lib.ListN.{drop, getD, length, length-map, take}
+use lib.Seq.{take-at, take-length}
+use Rattle.line.specs.Numbers.{slotIdle}
 use Rattle.pulses.specs.declared.Measured.{Measured}
 use Rattle.pulses.specs.declared.Measured.the-variants.{Given, ShortList, BadRanges, BadPulse}
 use Rattle.pulses.specs.declared.Setting.{Setting}
 use Rattle.pulses.specs.Conversion.{Converted, endOf, writtenOf}
+use Rattle.pulses.specs.Symbols.{leastIn, mostIn, slotsOf}
+use Rattle.pulses.proofs.Symbols.{symbol-small}
 use Rattle.words.specs.Words.{byteAt, bytesOf, wordAt, wordsOf}
-use Rattle.words.proofs.Placed.{placed-length}
-use Rattle.iebus_slots.specs.Output.{givenOf, measuredOf, mostPulses, outputOf, pulsesOf, slotsFor}
+use Rattle.words.proofs.Placed.{placed-length, read-again}
+use Rattle.iebus_slots.specs.Output.{ReadAgain, givenOf, measuredOf, mostPulses, outputOf, pulsesOf, slotsFor}
 
 -- the pulses that a list of so many places takes
 pub pulses-read : (input list rest : List ℕ) {count room : ℕ} → count ≡ min (length input / 4) room
@@ -40,10 +43,35 @@ given-least ShortList count = omega arith
 given-least BadRanges count = omega arith
 given-least BadPulse count = omega arith
 
-pub slots-fit : (s : Setting) (input : List ℕ) → length (slotsFor s input) ≤ mostPulses
+slots-fit : (s : Setting) (input : List ℕ) → length (slotsFor s input) ≤ mostPulses
 slots-fit s input =
     let m = measuredOf s input in
     omega (arith, given-count s m (pulsesOf input), given-least m (length (pulsesOf input)), pulses-count input)
+
+-- each is a slot word
+mapped-small : (s : Setting) (pulses : List ℕ) (i : ℕ) → getD (slotsOf s pulses) i 0 ≤ slotIdle
+mapped-small s [] i = omega arith
+mapped-small s (p ∷ ps) zero = symbol-small s (leastIn p) (mostIn p)
+mapped-small s (p ∷ ps) (suc i) = mapped-small s ps i
+
+slot-small : (s : Setting) (m : Measured) (pulses : List ℕ) (i : ℕ) → getD (writtenOf s m pulses) i 0 < 2 ^ 32
+unfolding writtenOf
+slot-small s Given pulses i = omega (arith, mapped-small s pulses i)
+slot-small s ShortList pulses i = omega arith
+slot-small s BadRanges pulses i = omega arith
+slot-small s BadPulse pulses i = omega arith
+
+pub read-again-slots : (s : Setting) (input : List ℕ) → ReadAgain s input
+unfolding outputOf
+read-again-slots s input =
+    let slots = slotsFor s input in
+    let all : min (length slots) (mostPulses * 4 / 4) ≡ length slots = omega (arith, slots-fit s input) in
+    record {
+      whole = placed-length (byteAt slots) _ ∙ ap (λ (n : ℕ). n * 4) all;
+      words = ap (λ (n : ℕ). wordsOf (bytesOf slots (n * 4)) (length slots)) all
+          ∙ read-again slots (length slots) (omega arith) (slot-small s (measuredOf s input) (pulsesOf input))
+          ∙ take-length slots;
+    }
 
 -- those of them that a list has at its front
 pub slots-made : (s : Setting) (input before after : List ℕ) {m : Measured} {count end : ℕ}

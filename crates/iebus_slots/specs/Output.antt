@@ -1,5 +1,6 @@
 -- What is made of an input: the slots of its pulses, as bytes, and what is said besides.
 use mathlib.Core.List.{List}
+use mathlib.Core.Path.{_≡_}
 use Prim.Native.Nat.{ℕ, _*_, _/_, _%_, min}
 use lib.Dec.{eqb, ltb}
 use lib.ListN.{length}
@@ -37,6 +38,11 @@ slotsFor s input = writtenOf s (measuredOf s input) (pulsesOf input)
 -- their bytes, as far as there is room for whole words
 unfoldable pub outputOf : Setting → List ℕ → ℕ → List ℕ
 outputOf s input room = bytesOf (slotsFor s input) (min (length (slotsFor s input)) (room / 4) * 4)
+
+-- where there is room for the bytes of all pulses, those of all slots are written, and are read again as these slots
+pub record ReadAgain (s : Setting) (input : List ℕ) : Type 0 where
+  pub whole : length (outputOf s input (mostPulses * 4)) ≡ length (slotsFor s input) * 4
+  pub words : wordsOf (outputOf s input (mostPulses * 4)) (length (slotsFor s input)) ≡ slotsFor s input
 
 -- what is said of an input of so many bytes: the refusal alone, else `more` if any byte follows the last pulse that is
 -- read, else `short` for 1 to 3 bytes left over

@@ -1,7 +1,7 @@
 // The arguments: least and most width for 0, for 1 and for start, each a decimal number.
 ghost use mathlib.Core.Path.{_≡_};
 ghost use Prim.Native.Nat.{_≤_};
-ghost use Rattle.iebus_slots.specs.Arguments.{askedOf, grown, rangeOf, settingOf, widthOf};
+ghost use Rattle.iebus_slots.specs.Arguments.{grown, rangeOf, settingOf, widthOf};
 use pulses::Range;
 use pulses::Setting;
 
@@ -36,7 +36,7 @@ fn grown(n: u32, byte: u8) -> u32
 }
 
 // The width that a text says, NO_WIDTH where it is no number.
-fn width(text: &[u8]) -> u32
+pub(crate) fn width(text: &[u8]) -> u32
     ensures { λ r. ⌜ r ≡ widthOf (now (text .entry)) ⌝ }
 {
     if text.len() == 0 {
@@ -51,7 +51,7 @@ fn width(text: &[u8]) -> u32
     n
 }
 
-fn range(least: u32, most: u32) -> RangeAsked
+pub(crate) fn range(least: u32, most: u32) -> RangeAsked
     ensures { λ r. ⌜ r ≡ rangeOf least most ⌝ }
 {
     if NO_WIDTH <= least {
@@ -66,7 +66,7 @@ fn range(least: u32, most: u32) -> RangeAsked
     })
 }
 
-fn setting(zero: RangeAsked, one: RangeAsked, start: RangeAsked) -> Asked
+pub(crate) fn setting(zero: RangeAsked, one: RangeAsked, start: RangeAsked) -> Asked
     ensures { λ r. ⌜ r ≡ settingOf zero one start ⌝ }
 {
     let RangeAsked::Given(zero) = zero else {
@@ -79,22 +79,4 @@ fn setting(zero: RangeAsked, one: RangeAsked, start: RangeAsked) -> Asked
         return Asked::Missing;
     };
     Asked::Given(Setting { zero, one, start })
-}
-
-pub(crate) fn setting_asked(
-    zero_least: &[u8],
-    zero_most: &[u8],
-    one_least: &[u8],
-    one_most: &[u8],
-    start_least: &[u8],
-    start_most: &[u8],
-) -> Asked
-    ensures { λ r. ⌜
-        r ≡ askedOf (now («zero_least» .entry)) (now («zero_most» .entry)) (now («one_least» .entry))
-        (now («one_most» .entry)) (now («start_least» .entry)) (now («start_most» .entry)) ⌝ }
-{
-    let zero = range(width(zero_least), width(zero_most));
-    let one = range(width(one_least), width(one_most));
-    let start = range(width(start_least), width(start_most));
-    setting(zero, one, start)
 }

@@ -1,4 +1,4 @@
-// What is made of an input: the slots of its pulses, as bytes, and what is said besides.
+// What a conversion is said to come to: how many slots there are, and what is said besides.
 ghost use mathlib.Core.Path.{_≡_};
 ghost use mathlib.Core.List.{_++_};
 ghost use Prim.Native.Nat.{_*_, _≤_};
@@ -19,19 +19,10 @@ pub(crate) enum Message {
     BadPulse,
 }
 
-// How many bytes of slots there are, and what is said.
-pub(crate) struct Outcome {
-    pub(crate) count: usize,
-    pub(crate) message: Message,
-}
-
-// At most so many pulses are read.
-const MOST_PULSES: usize = 16384;
-
-// Their bytes.
+// The bytes of the pulses that are read.
 const MOST_BYTES: usize = 65536;
 
-fn told(measured: Measured, bytes: usize) -> Message
+pub(crate) fn told(measured: Measured, bytes: usize) -> Message
     ensures { λ r. ⌜ r ≡ messageOf measured bytes ⌝ }
 {
     match measured {
@@ -51,7 +42,7 @@ fn told(measured: Measured, bytes: usize) -> Message
 }
 
 // How many of so many pulses got a slot: all, or none where the call was refused.
-fn given(measured: Measured, count: usize) -> usize
+pub(crate) fn given(measured: Measured, count: usize) -> usize
     ensures { λ r. ⌜ (r ≡ givenOf measured count) × (r ≤ count) ⌝ }
 {
     match measured {
@@ -59,30 +50,5 @@ fn given(measured: Measured, count: usize) -> usize
         Measured::ShortList => 0,
         Measured::BadRanges => 0,
         Measured::BadPulse => 0,
-    }
-}
-
-// The bytes of the slots go to the front of the list, as far as there is room for whole words; the rest of it stays as
-// it was. 65,536 bytes are room for all of them.
-pub(crate) fn converted(setting: Setting, input: &[u8], bytes: &mut [u8]) -> Outcome
-    ensures count { λ r. ⌜ r .count ≡ length (outputOf setting (now (input .entry)) (length (now (bytes .entry)))) ⌝ }
-    ensures written { λ r. ⌜
-        now (bytes .exit) ≡ outputOf setting (now (input .entry)) (length (now (bytes .entry)))
-        ++ drop (r .count) (now (bytes .entry)) ⌝ }
-    ensures message { λ r. ⌜
-        r .message ≡ messageOf (measuredOf setting (now (input .entry))) (length (now (input .entry))) ⌝ }
-    ensures within { λ r. ⌜ r .count ≤ length (now (bytes .entry)) ⌝ }
-    ensures fits { λ _. ⌜ length (slotsFor setting (now (input .entry))) ≤ mostPulses ⌝ }
-{
-    let mut pulses = [0u32; MOST_PULSES];
-    let mut slots = [0u32; MOST_PULSES];
-    let count = put_words(input, &mut pulses);
-    let measured = slots_of_pulses(setting, &pulses[0..count], &mut slots);
-    let end = given(measured, count);
-    let words = put_bytes(&slots[0..end], bytes);
-    let message = told(measured, input.len());
-    Outcome {
-        count: words * WORD_BYTES,
-        message,
     }
 }

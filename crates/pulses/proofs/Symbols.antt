@@ -52,6 +52,17 @@ chosen-idle false true c = (λ e. absurd (eqb-false 1 3 refl e), λ n. absurd (n
 chosen-idle false false true = (λ e. absurd (eqb-false 2 3 refl e), λ n. absurd (n .2 refl))
 chosen-idle false false false = (λ e. (false≢true, false≢true, false≢true), λ n. refl)
 
+chosen-small : (a b c : Bool) → chosen a b c ≤ slotIdle
+chosen-small true b c = omega arith
+chosen-small false true c = omega arith
+chosen-small false false true = omega arith
+chosen-small false false false = omega arith
+
+pub symbol-small : (s : Setting) (least most : ℕ) → symbolOf s least most ≤ slotIdle
+unfolding symbolOf
+symbol-small s least most =
+    chosen-small (within (s .zero) least most) (within (s .one) least most) (within (s .start) least most)
+
 -- ---- an interval in a range, by its ends and width by width
 
 within-lies : (r : Range) (least most : ℕ) → within r least most ≡ true → LiesIn r least most

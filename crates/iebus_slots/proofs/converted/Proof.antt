@@ -5,9 +5,9 @@ use native.Mathlib.Omega.{arith}
 use lib.ListN.{length, length-replicate, replicate}
 use Rattle.pulses.specs.declared.Measured.{Measured}
 use Rattle.iebus_slots.specs.Output.{messageOf, mostPulses, pulsesOf}
-use Rattle.iebus_slots.proofs.Slots.{output-made, pulses-count, pulses-read, slots-fit, slots-made}
-use Rattle.iebus_slots.proofs.output.converted.Statement.{statement}
-use Rattle.iebus_slots.proofs.output.converted.Tie as tie
+use Rattle.iebus_slots.proofs.Slots.{output-made, pulses-count, pulses-read, read-again-slots, slots-made}
+use Rattle.iebus_slots.proofs.converted.Statement.{statement}
+use Rattle.iebus_slots.proofs.converted.Tie as tie
 
 pub converted-spec : {M : Type 1} → statement M
 converted-spec =
@@ -49,4 +49,4 @@ converted-spec =
     output-made s input _ _ _ (made .1) (bytes .put-bytes .ensures .0) (bytes .put-bytes .ensures .1)
     in
     let message = c .told .ensures ∙ ap (λ (m : Measured). messageOf m (length input)) (made .0) in
-    (out .counted, (out .written, (message, (out .within, slots-fit s input))))))
+    (out .counted, (out .written, (message, (out .within, read-again-slots s input))))))

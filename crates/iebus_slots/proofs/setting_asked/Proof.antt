@@ -1,6 +1,6 @@
 use borrow.Author.Needs.{needs}
-use Rattle.iebus_slots.proofs.arguments.setting_asked.Statement.{statement}
-use Rattle.iebus_slots.proofs.arguments.setting_asked.Tie as tie
+use Rattle.iebus_slots.proofs.setting_asked.Statement.{statement}
+use Rattle.iebus_slots.proofs.setting_asked.Tie as tie
 
 pub setting-asked-spec : {M : Type 1} → statement M
 setting-asked-spec =
