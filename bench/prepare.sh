@@ -5,6 +5,7 @@ flags='-O2 -std=c11 -D_POSIX_C_SOURCE=200809L -Wall -Wextra -Werror'
 model='unit frame judgement ending registers'
 traffic='traffic/traffic traffic/host traffic/draw traffic/line'
 reader='reader traffic/logs'
+pulses='pulses traffic/pulses traffic/logs'
 # as many as contest.c draws
 lists=1000
 
@@ -19,24 +20,26 @@ build() {
         -o "$out/$1" || give_up "$1 is not built"
 }
 
-# The plain reader is no measure where it reads otherwise than the model: it takes the place of the exported one in the
-# model's own comparison over random logs.
-try_plain_log() {
-    gcc $flags -Imodel -Dplain_read_log=iebus_read_log target/model/logs-parts.o bench/plain_log.c \
-        -o "$out/plain_log" || give_up 'plain_log is not built'
-    "$out/plain_log" >"$out/log" 2>&1 || give_up "plain_log.c differs from the model, see $out/log"
+# try_plain SOURCE NAME=EXPORTED LISTS: plain C is no measure where it gives something else than the model: it takes the
+# place of the exported function in the model's own comparison over random lists
+try_plain() {
+    gcc $flags -Imodel "-D$2" "target/model/$3-parts.o" "bench/$1.c" -o "$out/$1" || give_up "$1 is not built"
+    "$out/$1" >"$out/log" 2>&1 || give_up "$1.c differs from the model, see $out/log"
 }
 
 # prepare WORDS: builds everything, and records so many words of each traffic
 prepare() {
     mkdir -p "$out" || give_up "no folder $out"
     make >"$out/log" 2>&1 || give_up "no library, see $out/log"
-    make -s -C model $(printf '../target/model/%s.o ' $model $traffic contest $reader logs-parts) || give_up 'no model'
+    make -s -C model $(printf '../target/model/%s.o ' $model $traffic contest $reader pulses traffic/pulses logs-parts \
+        pulses-parts) || give_up 'no model'
     build record record "$traffic $model"
     build measure 'measure quick' "$model"
     build contest contest contest
-    try_plain_log
+    try_plain plain_log plain_read_log=iebus_read_log logs
     build logs 'logs plain_log' "$reader"
+    try_plain plain_pulses plain_slots=iebus_slots pulses
+    build pulses 'pulses plain_pulses' "$pulses"
     for kind in slots mixed; do
         "$out/record" "$kind" "$1" >"$out/$kind" || give_up "$kind traffic is not recorded"
     done

@@ -5,7 +5,6 @@ use mathlib.Core.Path.{_≡_, refl, sym, ap, _∙_}
 use Prim.Native.Nat.{ℕ, _<_, _≤_}
 use borrow.Author.Tests.{le-ltb, lt-ltb}
 use lib.ListN.{drop, length, length-map}
-use Rattle.line.specs.Choice.{pick}
 use Rattle.pulses.specs.declared.Measured.the-variants.{Given, ShortList, BadRanges, BadPulse}
 use Rattle.pulses.specs.declared.Setting.{Setting}
 use Rattle.pulses.specs.Conversion.{Converted, endOf, writtenOf}

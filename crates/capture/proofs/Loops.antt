@@ -1,6 +1,6 @@
 -- What each loop over the pulses keeps from turn to turn.
 use mathlib.Core.Bool.{Bool, false, _||_, or-assoc, or-false}
-use mathlib.Core.List.{List, [], _∷_, _++_, map}
+use mathlib.Core.List.{List, _++_}
 use mathlib.Core.Path.{_≡_, refl, sym, ap, _∙_}
 use Prim.Native.Nat.{ℕ, _+_, _<_, _≤_}
 use native.Mathlib.Omega.{arith}
@@ -24,7 +24,9 @@ pub looked-one : {pulses : List ℕ} {bad : Bool} {i : ℕ} (here : Bool) → Lo
 unfolding badIn
 looked-one {pulses} {bad} {i} here l h e = record {
   within = omega arith;
-  found = l .found ∙ ap (λ (ps : List ℕ). bad || badIn ps) (cut pulses i h) ∙ rw (← e) (sym (or-assoc bad here (badIn (drop (i + 1) pulses))));
+  found = l .found
+      ∙ ap (λ (ps : List ℕ). bad || badIn ps) (cut pulses i h)
+      ∙ rw (← e) (sym (or-assoc bad here (badIn (drop (i + 1) pulses))));
 }
 
 pub looked-all : {pulses : List ℕ} {bad : Bool} {i : ℕ} → Looked pulses bad i → length pulses ≤ i → bad ≡ badIn pulses

@@ -84,7 +84,8 @@ slots-made s input before after {m} {count} {end} c room counted is =
     given-count s m (pulsesOf input) ∙ ap (givenOf m) (sym counted) ∙ sym is
     in (
       measured,
-      ap (λ (k : ℕ). take k after) all ∙ ap (take end) (c .written) ∙ take-at (writtenOf s m (pulsesOf input)) _ end long
+      ap (λ (k : ℕ). take k after) all ∙ ap (take end) (c .written)
+          ∙ take-at (writtenOf s m (pulsesOf input)) _ end long
           ∙ ap (λ (r : Measured). writtenOf s r (pulsesOf input)) measured,
     )
 

@@ -4,8 +4,6 @@ use mathlib.Core.List.{List, [], _∷_}
 use Prim.Native.Nat.{ℕ, _+_, _*_, _-_}
 use lib.Dec.{leb, ltb}
 use Rattle.line.specs.Choice.{pick}
-use Rattle.pulses.specs.declared.Range.{Range}
-use Rattle.pulses.specs.declared.Setting.{Setting}
 use Rattle.iebus_slots.specs.declared.arguments.RangeAsked.{RangeAsked}
 use Rattle.iebus_slots.specs.declared.arguments.RangeAsked.the-variants as range
 use Rattle.iebus_slots.specs.declared.arguments.Asked.{Asked}

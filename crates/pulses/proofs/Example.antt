@@ -1,15 +1,15 @@
 -- The premises of what a user relies on are met: three pulses, the second in doubt, and widths that they may have had.
-use mathlib.Core.List.{List, [], _∷_, map}
+use mathlib.Core.List.{List, [], _∷_}
 use mathlib.Core.Path.{_≡_, refl}
 use Prim.Native.Nat.{ℕ, zero, suc}
 use native.Mathlib.Omega.{arith}
 use borrow.Author.Tests.{eqb-false}
-use lib.ListN.{getD, length}
+use lib.ListN.{getD}
 use Rattle.line.specs.Numbers.{slotHigh, slotIdle, slotLow, slotStart}
 use Rattle.pulses.specs.Cases.{bench, from}
 use Rattle.pulses.specs.Ranges.{badRanges}
-use Rattle.pulses.specs.Relied.{Becomes, LiesIn, Ordered, Sound, TrueWidths, exactSlots}
-use Rattle.pulses.specs.Symbols.{slotsOf, symbolOf}
+use Rattle.pulses.specs.Relied.{LiesIn, Ordered, Sound, TrueWidths, exactSlots}
+use Rattle.pulses.specs.Symbols.{symbolOf}
 use Rattle.pulses.proofs.Ranges.{sound}
 use Rattle.pulses.proofs.Relied.{relied}
 

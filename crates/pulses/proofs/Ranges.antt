@@ -1,12 +1,12 @@
 -- A setting is refused exactly if something is wrong with it.
-use mathlib.Core.Bool.{Bool, true, false, _&&_, _||_, false≢true}
+use mathlib.Core.Bool.{true, false, false≢true}
 use mathlib.Core.Logic.{⊎-elim}
-use mathlib.Core.Path.{_≡_, refl, sym, subst, _∙_}
+use mathlib.Core.Path.{_≡_, refl, sym, _∙_}
 use Prim.Native.Nat.{_≤_}
 use native.Mathlib.Omega.{arith}
 use native.Mathlib.Nat.{le-refl}
 use borrow.Author.Tests.{le-leb, le-ltb, leb-true, ltb-false}
-use lib.Dec.{T, leb, ltb}
+use lib.Dec.{leb}
 use Rattle.line.proofs.Either.{below-or-not, both, either, neither, none-of}
 use Rattle.pulses.specs.declared.Range.{Range}
 use Rattle.pulses.specs.declared.Setting.{Setting}
@@ -27,8 +27,10 @@ apart a b e width inA inB = false≢true (sym e ∙ rw (first, second) refl)
 meet-in : (a b : Range) → a .least ≤ a .most → b .least ≤ b .most → Apart a b → meet a b ≡ true → ⊥
 meet-in a b orderA orderB e m =
     ⊎-elim
-    (λ l. e (b .least) (record { above = omega (arith, l); below = second }) (record { above = le-refl (b .least); below = orderB }))
-    (λ l. e (a .least) (record { above = le-refl (a .least); below = orderA }) (record { above = l; below = first }))
+    (λ l. e (b .least) (record { above = omega (arith, l); below = second })
+    (record { above = le-refl (b .least); below = orderB }))
+    (λ l. e (a .least) (record { above = le-refl (a .least); below = orderA })
+    (record { above = l; below = first }))
     (below-or-not (a .least) (b .least))
   where
     first : a .least ≤ b .most

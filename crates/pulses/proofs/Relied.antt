@@ -1,16 +1,14 @@
 -- What a user relies on, from the laws of ranges and symbols.
-use mathlib.Core.Bool.{Bool, true, false, false≢true}
-use mathlib.Core.List.{List, [], _∷_, map}
+use mathlib.Core.Bool.{true, false}
+use mathlib.Core.List.{List, [], _∷_}
 use mathlib.Core.Logic.{⊎-elim}
 use mathlib.Core.Path.{_≡_, refl, sym, subst, _∙_}
 use Prim.Native.Nat.{ℕ, zero, suc, _<_, _≤_}
 use native.Mathlib.Omega.{arith}
 use borrow.Author.Tests.{le-ltb, lt-ltb, ltb-false}
-use lib.Dec.{ltb}
 use lib.ListN.{getD, length, length-map}
 use Rattle.line.proofs.Either.{either, neither, none-of}
 use Rattle.line.proofs.Places.{getD-map}
-use Rattle.line.specs.Choice.{pick}
 use Rattle.line.specs.Numbers.{slotIdle}
 use Rattle.pulses.specs.declared.Setting.{Setting}
 use Rattle.pulses.specs.declared.Measured.the-variants.{Given, ShortList, BadRanges, BadPulse}
@@ -33,7 +31,8 @@ none-bad : (pulses : List ℕ) → Ordered pulses → badIn pulses ≡ false
 unfolding badIn
 none-bad [] o = refl
 none-bad (p ∷ ps) o =
-    none-of (le-ltb (mostIn p) (leastIn p) (o 0 (omega arith))) (none-bad ps (λ i inside. o (suc i) (omega (arith, inside))))
+    none-of (le-ltb (mostIn p) (leastIn p) (o 0 (omega arith)))
+    (none-bad ps (λ i inside. o (suc i) (omega (arith, inside))))
 
 -- ---- the answers
 
@@ -45,13 +44,14 @@ module _ (s : Setting) (room : ℕ) (pulses : List ℕ) where
   bad-ranges : length pulses ≤ room → (Sound s → ⊥) → endOf s room pulses ≡ BadRanges
   unfolding endOf
   bad-ranges e n =
-      ⊎-elim (λ (t : badRanges s ≡ true). rw (le-ltb room (length pulses) e, t) refl) (λ f. absurd (n (sound s f))) (either (badRanges s))
+      ⊎-elim (λ (t : badRanges s ≡ true). rw (le-ltb room (length pulses) e, t) refl) (λ f. absurd (n (sound s f)))
+      (either (badRanges s))
 
   bad-pulse : length pulses ≤ room → Sound s → (Ordered pulses → ⊥) → endOf s room pulses ≡ BadPulse
   unfolding endOf
   bad-pulse e w n =
-      ⊎-elim (λ (t : badIn pulses ≡ true). rw (le-ltb room (length pulses) e, not-bad s w, t) refl) (λ f. absurd (n (ordered pulses f)))
-      (either (badIn pulses))
+      ⊎-elim (λ (t : badIn pulses ≡ true). rw (le-ltb room (length pulses) e, not-bad s w, t) refl)
+      (λ f. absurd (n (ordered pulses f))) (either (badIn pulses))
 
   given : length pulses ≤ room → Sound s → Ordered pulses → endOf s room pulses ≡ Given
   unfolding endOf

@@ -1,12 +1,11 @@
 -- Pulses that are computed: what the text of ticket 8 says of each setting and list.
-use mathlib.Core.Bool.{Bool, true}
+use mathlib.Core.Bool.{true}
 use mathlib.Core.List.{List, [], _∷_, _++_}
 use mathlib.Core.Path.{_≡_, refl}
 use Prim.Native.Nat.{ℕ, _+_, _*_}
 use Rattle.line.specs.Cases.{Case, _gives_, allGiven}
 use Rattle.line.specs.Choice.{bitOf}
 use Rattle.line.specs.Numbers.{slotHigh, slotIdle, slotLow, slotStart}
-use Rattle.pulses.specs.declared.Range.{Range}
 use Rattle.pulses.specs.declared.Setting.{Setting}
 use Rattle.pulses.specs.Conversion.{endOf, numberOf, settingIn, writtenOf}
 use Rattle.pulses.specs.Ranges.{badRanges}

@@ -1,5 +1,5 @@
--- What a user relies on, of every setting and every list of pulses: laws of the definitions before, told in the words of
--- ticket 8 and width by width, so that a definition that says something else is refused.
+-- What a user relies on, of every setting and every list of pulses: laws of the definitions before, told in the words
+-- of ticket 8 and width by width, so that a definition that says something else is refused.
 use mathlib.Core.List.{List, map}
 use mathlib.Core.Logic.{_↔_}
 use mathlib.Core.Path.{_≡_}
