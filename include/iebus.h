@@ -121,10 +121,11 @@ uint32_t iebus_read_log(uint32_t mode, const uint32_t *slots, size_t slots_len, 
 
 /* The slots of measured pulses: slots[i] is the slot word of pulses[i], as iebus_read_log takes them. A pulse becomes
    IEBUS_SLOT_LOW, IEBUS_SLOT_HIGH or IEBUS_SLOT_START exactly if all widths from its least to its most lie in the range
-   `zero`, `one` or `start`; else, where the measurement leaves a doubt, it becomes IEBUS_SLOT_IDLE, which ends a frame.
-   So whatever the true widths were, exact measuring would have given the same slot at each place that is not idle.
+   `zero`, `one` or `start`. Every other, in a gap, outside all ranges or over an end of one, becomes IEBUS_SLOT_IDLE,
+   which ends a frame. So whatever true widths lie in the measured intervals, exact measuring would have given the same
+   slot at each place that is not idle.
 
-   A range has both its ends. The three share no tick; they may stand in any order, with gaps between them or without,
+   Both ends belong to a range. The three share no tick; they may stand in any order, with gaps between them or without,
    and a range may be one width. Places past the last slot keep their contents. Lists are of uint32_t in the host's own
    order, and their lengths count words.
 

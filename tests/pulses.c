@@ -14,6 +14,7 @@
 enum {
     SEED = 1,
     RANDOM_CAPTURES = 200000,
+    LONG_PULSES = 1000000,
 };
 
 /* The header's names for what the model has by its own. */
@@ -45,7 +46,7 @@ static bool true_widths_agree(struct random *r, const struct capture *capture, c
     for (size_t i = 0; i < capture->len && agree; i++) {
         agree = exact.slots[i] <= SLOT_IDLE && (slots[i] == SLOT_IDLE || slots[i] == exact.slots[i]);
         /* idle says nothing of what exact measuring gives: any symbol, or idle */
-        if (slots[i] == SLOT_IDLE)
+        if (agree && slots[i] == SLOT_IDLE)
             reach->times[EXACT_SYMBOL_AT_IDLE + exact.slots[i]]++;
     }
     return agree;
@@ -83,10 +84,30 @@ static void random_captures(void)
         check_pulses_reached(&reach);
 }
 
+/* A capture longer than any drawn above, with every slot in it. */
+static void long_capture(void)
+{
+    static uint32_t pulses[LONG_PULSES], proved[LONG_PULSES], model[LONG_PULSES];
+    const uint32_t ranges[SYMBOLS] = {WIDTHS(30, 36), WIDTHS(17, 23), WIDTHS(155, 185)};
+    struct random r = random_seeded(SEED);
+    for (size_t i = 0; i < LONG_PULSES; i++)
+        pulses[i] = draw_pulse_for(&r, ranges, random_below(&r, SLOT_IDLE + 1));
+    check("1,000,000 pulses in a call are converted as by the second model",
+          iebus_slots(ranges[0], ranges[1], ranges[2], pulses, LONG_PULSES, proved, LONG_PULSES) == TAKEN
+          && model_slots(ranges[0], ranges[1], ranges[2], pulses, LONG_PULSES, model, LONG_PULSES) == TAKEN
+          && memcmp(proved, model, sizeof model) == 0);
+    pulses[LONG_PULSES - 1] = WIDTHS(1, 0);
+    memset(proved, 0, sizeof proved);
+    check("the last of them with least above most is number 20, and nothing is written",
+          iebus_slots(ranges[0], ranges[1], ranges[2], pulses, LONG_PULSES, proved, LONG_PULSES) == REFUSED_PULSE
+          && proved[0] == 0 && memcmp(proved, proved + 1, sizeof proved - sizeof *proved) == 0);
+}
+
 int main(void)
 {
     names();
     try_known_pulses(iebus_slots, check);
     random_captures();
+    long_capture();
     return any_failed;
 }

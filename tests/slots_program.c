@@ -38,7 +38,7 @@ static void put_setting(const uint32_t *ranges)
         printf("%" PRIu32 " %" PRIu32 "%c", least_of(ranges[i]), most_of(ranges[i]), i < SYMBOLS - 1 ? ' ' : '\n');
 }
 
-/* "decimal numbers of 1 to 5 digits up to 65535" */
+/* A decimal number of 1 to 5 digits, up to 65,535. */
 static bool get_number(const char *text, uint32_t *number)
 {
     size_t digits = 0;

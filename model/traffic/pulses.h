@@ -27,8 +27,7 @@ void draw_setting(struct random *r, uint32_t *ranges);
    pulses are wrong, and some answer lists are too short. */
 void draw_capture(struct random *r, struct capture *capture);
 
-/* A pulse that becomes that slot: a random interval in the symbol's range or, for idle, one that lies in none, where
-   the setting's ranges do not hold every width from 0 to 65,535. */
+/* A pulse that becomes that slot: a random interval in the symbol's range or, for idle, one that lies in none. */
 uint32_t draw_pulse_for(struct random *r, const uint32_t *ranges, uint32_t slot);
 
 #endif

@@ -51,7 +51,7 @@ fn bad_pulse(pulse: u32) -> bool
     pulse / HALF < pulse % HALF
 }
 
-// Whether some pulse is none. To look at every pulse and test once is cheaper than a test of each.
+// Whether some pulse has its least above its most. To look at every pulse and test once is cheaper than a test of each.
 fn bad_pulses(pulses: &[u32]) -> bool
     ensures { λ r. ⌜ r ≡ badIn (now (pulses .entry)) ⌝ }
 {

@@ -22,8 +22,8 @@ use Rattle.logs.specs.Records.{Record, firstWord, recordWords, recordsOf}
 use Rattle.logs.specs.Records.{wordsOf as recordsWords}
 use Rattle.text.specs.declared.last.Last.the-variants.{Nothing, Short, More}
 use Rattle.text.specs.Last.{lastText}
-use Rattle.words.specs.Words.{wordAt, wordsOf}
-use Rattle.words.proofs.Placed.{placed-length}
+use Rattle.words.specs.Words.{wordsOf}
+use Rattle.words.proofs.Placed.{read-count, read-front}
 use Rattle.iebus_dump.specs.Line.{frameOf, lineOf}
 use Rattle.iebus_dump.specs.Dump.{dumpOf, header, lastOf, linesOf, mostWords, refused, slotsOf, startsFrom}
 use Rattle.iebus_dump.specs.Dump.{wholeOf}
@@ -116,17 +116,14 @@ lines-right (w ∷ ws) more rs place sounds count =
     (at-other w place ws more rs (lines-right ws more) sounds count) (either (eqb w slotStart))
 
 -- the words of an input that a list of so many places takes
-pub slots-made : (input words : List ℕ) {n room : ℕ} → n ≡ min (length input / 4) room → room ≡ mostWords
-    → take n words ≡ wordsOf input n → take (n - 0) words ≡ slotsOf input
+pub slots-made : (input list rest : List ℕ) {count room : ℕ} → count ≡ min (length input / 4) room → room ≡ mostWords
+    → list ≡ wordsOf input count ++ rest → take (count - 0) list ≡ slotsOf input
 unfolding slotsOf
-slots-made input words {n} {room} count is front =
-    let all : n - 0 ≡ n = omega arith in
-    let words-read : n ≡ min (length input / 4) mostWords = omega arith in
-    ap (λ (k : ℕ). take k words) all ∙ front ∙ ap (wordsOf input) words-read
+slots-made input list rest = read-front input list rest
 
 slots-count : (input : List ℕ) → length (slotsOf input) ≡ min (length input / 4) mostWords
 unfolding slotsOf
-slots-count input = placed-length (wordAt input) (min (length input / 4) mostWords)
+slots-count input = read-count input mostWords
 
 pub slots-length : (input : List ℕ) → length (slotsOf input) ≤ mostWords
 slots-length input = omega (arith, slots-count input)
@@ -175,12 +172,11 @@ textOf read input after =
 
 -- the text, as the code has it
 pub text-made : (read : LogRead) (input words after : List ℕ) {count room last shown : ℕ}
-    → count ≡ min (length input / 4) room → room ≡ mostWords → take count words ≡ wordsOf input count
+    → count ≡ min (length input / 4) room → room ≡ mostWords → take (count - 0) words ≡ slotsOf input
     → last ≡ lastBy read (length input) → shown ≡ shownBy last count → shown ≤ count
     → textBy last (take (shown - 0) words) after ≡ textOf read input after
-text-made read input words after {count} {room} {last} {shown} counted is front last-is shown-is within =
+text-made read input words after {count} {room} {last} {shown} counted is made last-is shown-is within =
     let slots : List ℕ = slotsOf input in
-    let made : take (count - 0) words ≡ slots = slots-made input words counted is front in
     let places : length slots ≡ count = slots-count input ∙ omega arith in
     let fewer : shown - 0 ≤ count - 0 = omega arith in
     ap (λ (l : List ℕ). textBy last l after) (sym (take-take (shown - 0) (count - 0) words fewer))

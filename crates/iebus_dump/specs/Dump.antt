@@ -11,7 +11,7 @@ use Rattle.logs.specs.Records.{Record, recordsOf}
 use Rattle.text.specs.declared.last.Last.{Last}
 use Rattle.text.specs.declared.last.Last.the-variants.{Nothing, Short, More}
 use Rattle.text.specs.Last.{lastText}
-use Rattle.words.specs.Words.{wordsOf}
+use Rattle.words.specs.Words.{wordsRead}
 use Rattle.iebus_dump.specs.Line.{bytesOf, frameOf, lineOf}
 
 -- at most so many words are read
@@ -20,7 +20,7 @@ mostWords = 16384
 
 -- the slot words of an input
 unfoldable pub slotsOf : List ℕ → List ℕ
-slotsOf input = wordsOf input (min (length input / 4) mostWords)
+slotsOf input = wordsRead input mostWords
 
 -- the places of the start words, where the first word has this place
 unfoldable pub startsFrom : ℕ → List ℕ → List ℕ

@@ -10,18 +10,18 @@ use Rattle.iebus_slots.specs.Arguments.{grown, noWidth, widthFrom, width
 -- i bytes of a text have been read, and n is what they say
 pub record Read (text : List ℕ) (n i : ℕ) : Type 0 where
   pub within : i ≤ length text
-  pub least : n ≤ noWidth
+  pub small : n ≤ noWidth
   pub rest : widthFrom 0 text ≡ widthFrom n (drop i text)
 
 pub nothing-read : (text : List ℕ) → Read text 0 0
-nothing-read text = record { within = omega arith; least = omega arith; rest = refl }
+nothing-read text = record { within = omega arith; small = omega arith; rest = refl }
 
 pub one-read : {text : List ℕ} {n i next : ℕ} → Read text n i → i < length text → next ≡ grown n (getD text i 0)
     → next ≤ noWidth → Read text next (i + 1)
 unfolding widthFrom
-one-read {text} {n} {i} {next} r more is small = record {
+one-read {text} {n} {i} {next} r more is no-more = record {
   within = omega arith;
-  least = small;
+  small = no-more;
   rest = r .rest ∙ ap (widthFrom n) (cut text i more) ∙ ap (λ (k : ℕ). widthFrom k (drop (i + 1) text)) (sym is);
 }
 

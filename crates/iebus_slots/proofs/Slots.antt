@@ -12,23 +12,19 @@ use Rattle.pulses.specs.declared.Setting.{Setting}
 use Rattle.pulses.specs.Conversion.{Converted, endOf, writtenOf}
 use Rattle.pulses.specs.Symbols.{leastIn, mostIn, slotsOf}
 use Rattle.pulses.proofs.Symbols.{symbol-small}
-use Rattle.words.specs.Words.{byteAt, bytesOf, wordAt, wordsOf}
-use Rattle.words.proofs.Placed.{placed-length, read-again}
+use Rattle.words.specs.Words.{byteAt, bytesOf, wordsOf}
+use Rattle.words.proofs.Placed.{placed-length, read-again, read-count, read-front}
 use Rattle.iebus_slots.specs.Output.{ReadAgain, givenOf, measuredOf, mostPulses, outputOf, pulsesOf, slotsFor}
 
 -- the pulses that a list of so many places takes
 pub pulses-read : (input list rest : List ℕ) {count room : ℕ} → count ≡ min (length input / 4) room
     → room ≡ mostPulses → list ≡ wordsOf input count ++ rest → take (count - 0) list ≡ pulsesOf input
 unfolding pulsesOf
-pulses-read input list rest {count} {room} counted is front =
-    let all : count - 0 ≡ count = omega arith in
-    let read : count ≡ min (length input / 4) mostPulses = omega arith in
-    ap (λ (k : ℕ). take k list) all ∙ ap (take count) front
-    ∙ take-at (wordsOf input count) rest count (placed-length (wordAt input) count) ∙ ap (wordsOf input) read
+pulses-read input list rest = read-front input list rest
 
 pub pulses-count : (input : List ℕ) → length (pulsesOf input) ≡ min (length input / 4) mostPulses
 unfolding pulsesOf
-pulses-count input = placed-length (wordAt input) (min (length input / 4) mostPulses)
+pulses-count input = read-count input mostPulses
 
 given-count : (s : Setting) (m : Measured) (pulses : List ℕ) → length (writtenOf s m pulses) ≡ givenOf m (length pulses)
 unfolding writtenOf
@@ -37,16 +33,16 @@ given-count s ShortList pulses = refl
 given-count s BadRanges pulses = refl
 given-count s BadPulse pulses = refl
 
-given-least : (m : Measured) (count : ℕ) → givenOf m count ≤ count
-given-least Given count = omega arith
-given-least ShortList count = omega arith
-given-least BadRanges count = omega arith
-given-least BadPulse count = omega arith
+given-most : (m : Measured) (count : ℕ) → givenOf m count ≤ count
+given-most Given count = omega arith
+given-most ShortList count = omega arith
+given-most BadRanges count = omega arith
+given-most BadPulse count = omega arith
 
 slots-fit : (s : Setting) (input : List ℕ) → length (slotsFor s input) ≤ mostPulses
 slots-fit s input =
     let m = measuredOf s input in
-    omega (arith, given-count s m (pulsesOf input), given-least m (length (pulsesOf input)), pulses-count input)
+    omega (arith, given-count s m (pulsesOf input), given-most m (length (pulsesOf input)), pulses-count input)
 
 -- each is a slot word
 mapped-small : (s : Setting) (pulses : List ℕ) (i : ℕ) → getD (slotsOf s pulses) i 0 ≤ slotIdle

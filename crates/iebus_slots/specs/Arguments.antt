@@ -1,4 +1,4 @@
--- The arguments: "least and most for 0, for 1 and for start", each a decimal number.
+-- The arguments: least and most width for 0, for 1 and for start, each a decimal number.
 use mathlib.Core.Bool.{Bool, _&&_}
 use mathlib.Core.List.{List, [], _∷_}
 use Prim.Native.Nat.{ℕ, _+_, _*_, _-_}

@@ -9,7 +9,7 @@ use Rattle.pulses.specs.declared.Measured.{Measured}
 use Rattle.pulses.specs.declared.Measured.the-variants.{Given, ShortList, BadRanges, BadPulse}
 use Rattle.pulses.specs.declared.Setting.{Setting}
 use Rattle.pulses.specs.Conversion.{endOf, writtenOf}
-use Rattle.words.specs.Words.{bytesOf, wordsOf}
+use Rattle.words.specs.Words.{bytesOf, wordsOf, wordsRead}
 use Rattle.iebus_slots.specs.declared.output.Message.{Message}
 use Rattle.iebus_slots.specs.declared.output.Message.the-variants as message
 
@@ -19,7 +19,7 @@ mostPulses = 16384
 
 -- a pulse is a word, four bytes, the lowest first
 unfoldable pub pulsesOf : List ℕ → List ℕ
-pulsesOf input = wordsOf input (min (length input / 4) mostPulses)
+pulsesOf input = wordsRead input mostPulses
 
 abbrev pub measuredOf : Setting → List ℕ → Measured
 measuredOf s input = endOf s mostPulses (pulsesOf input)

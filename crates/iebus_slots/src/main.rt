@@ -112,7 +112,7 @@ fn say(message: Message) {
     }
 }
 
-// There is room for all of it. Where nobody reads what is written, nothing is left to do.
+// There is room for all of it. Where it cannot be written, nothing is left to do.
 fn print(setting: Setting, input: &[u8], slots: &mut [u8])
     requires { ⌜ mostPulses * 4 ≤ length (now slots) ⌝ }
 {

@@ -20,7 +20,8 @@ use pulses::Setting;
 use reader::read_log;
 use records::gathered;
 
-// A verdict as one number: the refusal's number in the upper half, the place in the lower.
+// Two numbers in one: of a verdict the refusal's number in the upper half and the place in the lower, of a range the most
+// and the least.
 const WORD_HALF: u32 = 65536;
 
 // The core's contest with its verdict as one number.
@@ -67,7 +68,6 @@ pub extern "C" fn iebus_read_log(
     }
 }
 
-// A range as one word: the least in the lower half, the most in the upper.
 fn range(word: u32) -> Range
     ensures { λ r. ⌜ r ≡ rangeIn word ⌝ }
 {

@@ -6,7 +6,7 @@ use native.Mathlib.Omega.{arith}
 use borrow.Author.Tests.{eqb-false}
 use lib.ListN.{getD}
 use Rattle.line.specs.Numbers.{slotHigh, slotIdle, slotLow, slotStart}
-use Rattle.pulses.specs.Cases.{bench, from}
+use Rattle.pulses.specs.Cases.{bench, word}
 use Rattle.pulses.specs.Ranges.{badRanges}
 use Rattle.pulses.specs.Relied.{LiesIn, Ordered, Sound, TrueWidths, exactSlots}
 use Rattle.pulses.specs.Symbols.{symbolOf}
@@ -14,7 +14,7 @@ use Rattle.pulses.proofs.Ranges.{sound}
 use Rattle.pulses.proofs.Relied.{relied}
 
 abbrev pulses : List ℕ
-pulses = from 22 28 ∷ from 18 23 ∷ from 60 80 ∷ []
+pulses = word 22 28 ∷ word 18 23 ∷ word 60 80 ∷ []
 
 abbrev widths : List ℕ
 widths = 22 ∷ 19 ∷ 80 ∷ []

@@ -79,9 +79,6 @@ lies-within r least most order lies =
     let last = lies most (record { above = order; below = le-refl most }) in
     rw (le-leb (r .least) least (first .above), le-leb most (r .most) (last .below)) refl
 
-exactly-within : (r : Range) (least most : ℕ) → least ≤ most → (within r least most ≡ true) ↔ LiesIn r least most
-exactly-within r least most order = (within-lies r least most, lies-within r least most order)
-
 -- an interval lies in one of two ranges that share no tick
 one-only : (a b : Range) (least most : ℕ) → least ≤ most → Apart a b → Never (within a least most) (within b least most)
 one-only a b least most order e inA inB =

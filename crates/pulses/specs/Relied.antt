@@ -3,7 +3,7 @@
 use mathlib.Core.List.{List, map}
 use mathlib.Core.Logic.{_↔_}
 use mathlib.Core.Path.{_≡_}
-use Prim.Native.Nat.{ℕ, _<_, _≤_}
+use Prim.Native.Nat.{ℕ, _+_, _*_, _<_, _≤_}
 use lib.ListN.{getD, length}
 use Rattle.line.specs.Numbers.{slotHigh, slotIdle, slotLow, slotStart}
 use Rattle.pulses.specs.declared.Range.{Range}
@@ -63,8 +63,19 @@ TrueWidths pulses widths =
 abbrev pub exactSlots : Setting → List ℕ → List ℕ
 exactSlots s widths = map (λ (width : ℕ). symbolOf s width width) widths
 
+-- which a card would give so: both halves of the word are the width
+abbrev pub exactly : ℕ → ℕ
+exactly width = width + width * 0x1_0000
+
+-- "both up to 65,535"
+abbrev pub Widths : List ℕ → Type 0
+Widths widths = (i : ℕ) → i < length widths → getD widths i 0 < 0x1_0000
+
 -- what a user relies on, of every list
 pub record Relied (s : Setting) : Type 0 where
+  -- a pulse is a least and a most, both in one word
+  pub least : (least most : ℕ) → least < 0x1_0000 → leastIn (least + most * 0x1_0000) ≡ least
+  pub most : (least most : ℕ) → least < 0x1_0000 → mostIn (least + most * 0x1_0000) ≡ most
   -- "12, ahead of the others"; "19", whatever the pulses are; "20 .. checked after 19 over the whole list"; else each
   -- pulse gets its slot
   pub short-list : (room : ℕ) (pulses : List ℕ) → room < length pulses → endOf s room pulses ≡ ShortList
@@ -74,6 +85,7 @@ pub record Relied (s : Setting) : Type 0 where
       → endOf s room pulses ≡ BadPulse
   pub given : (room : ℕ) (pulses : List ℕ) → length pulses ≤ room → Sound s → Ordered pulses
       → endOf s room pulses ≡ Given
+  pub taken : (room : ℕ) (pulses : List ℕ) → endOf s room pulses ≡ Given → Sound s × Ordered pulses
   pub as-many : (pulses : List ℕ) → length (slotsOf s pulses) ≡ length pulses
   pub becomes : Disjoint s → (pulses : List ℕ) → Ordered pulses → (i : ℕ) → i < length pulses
       → Becomes s (leastIn (getD pulses i 0)) (mostIn (getD pulses i 0)) (getD (slotsOf s pulses) i slotIdle)
@@ -82,3 +94,4 @@ pub record Relied (s : Setting) : Type 0 where
   pub exact : Disjoint s → (pulses widths : List ℕ) → TrueWidths pulses widths → (i : ℕ) → i < length pulses
       → (getD (slotsOf s pulses) i slotIdle ≡ slotIdle → ⊥)
       → getD (exactSlots s widths) i slotIdle ≡ getD (slotsOf s pulses) i slotIdle
+  pub measured : (widths : List ℕ) → Widths widths → slotsOf s (map exactly widths) ≡ exactSlots s widths

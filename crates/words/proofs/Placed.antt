@@ -2,14 +2,14 @@
 use mathlib.Core.List.{List, [], _∷_, _++_}
 use mathlib.Core.Logic.{⊎-elim}
 use mathlib.Core.Path.{_≡_, refl, sym, ap, _∙_}
-use Prim.Native.Nat.{ℕ, zero, suc, _+_, _*_, _/_, _%_, _^_, _<_, _≤_}
+use Prim.Native.Nat.{ℕ, zero, suc, _+_, _*_, _-_, _/_, _%_, _^_, _<_, _≤_, min}
 use native.Mathlib.Nat.{div-div-eq-div-mul}
 use native.Mathlib.Numerals.{add-one}
 use native.Mathlib.Omega.{arith}
 use lib.ListN.{List·getD-append, drop, getD, length, length-append, length-set, set, take, take-append-drop}
-use lib.Seq.{drop-drop, drop-set-lt, ext-getD, getD-append-seam, getD-take, length-take-le, take-suc-set}
+use lib.Seq.{drop-drop, drop-set-lt, ext-getD, getD-append-seam, getD-take, length-take-le, take-at, take-suc-set}
 use Rattle.line.proofs.Either.{below-or-not}
-use Rattle.words.specs.Words.{byteAt, bytesOf, placed, wordAt, wordsOf}
+use Rattle.words.specs.Words.{byteAt, bytesOf, placed, wordAt, wordsOf, wordsRead}
 
 -- the first i elements of a list have been written over `first`
 pub record Placed (f : ℕ → ℕ) (first now : List ℕ) (i : ℕ) : Type 0 where
@@ -56,6 +56,19 @@ placed-at f (suc n) i inside =
     ∙ getD-append-seam (placed f n) (f n) [] 0 ∙ ap f (omega (arith, h, inside)))
     (below-or-not i n)
 
+-- ---- the words that a list with room for so many is given
+
+pub read-count : (input : List ℕ) (most : ℕ) → length (wordsRead input most) ≡ min (length input / 4) most
+read-count input most = placed-length (wordAt input) (min (length input / 4) most)
+
+pub read-front : (input list rest : List ℕ) {count room most : ℕ} → count ≡ min (length input / 4) room → room ≡ most
+    → list ≡ wordsOf input count ++ rest → take (count - 0) list ≡ wordsRead input most
+read-front input list rest {count} {room} {most} counted is front =
+    let all : count - 0 ≡ count = omega arith in
+    let read : count ≡ min (length input / 4) most = omega arith in
+    ap (λ (k : ℕ). take k list) all ∙ ap (take count) front
+    ∙ take-at (wordsOf input count) rest count (placed-length (wordAt input) count) ∙ ap (wordsOf input) read
+
 -- ---- what is written of words is read again as these words
 
 -- a byte of the word at a place
@@ -67,8 +80,8 @@ byte-in words n i k inside within =
     placed-at (byteAt words) (n * 4) (i * 4 + k) (omega (arith, inside, within)) ∙ rw (place, byte)
 
 -- a number by its lowest byte and what is above it
-cut : (n : ℕ) → n ≡ n % 256 + n / 256 * 256
-cut n = omega arith
+byte-and-rest : (n : ℕ) → n ≡ n % 256 + n / 256 * 256
+byte-and-rest n = omega arith
 
 joined : (a b c d bytes-1 bytes-2 word : ℕ) → word ≡ a + bytes-1 * 256 → bytes-1 ≡ b + bytes-2 * 256
     → bytes-2 ≡ c + d * 256 → a + b * 0x100 + c * 0x1_0000 + d * 0x100_0000 ≡ word
@@ -84,8 +97,8 @@ whole word small =
     let highest : word / 0x100_0000 % 256 ≡ word / 0x100_0000 = omega (arith, small) in
     let lowest : word / 1 ≡ word = omega arith in
     rw (highest, lowest)
-    (joined _ _ _ _ _ _ word (cut word) (rw (second) at (cut (word / 0x100)))
-    (rw (third) at (cut (word / 0x1_0000))))
+    (joined _ _ _ _ _ _ word (byte-and-rest word) (rw (second) at (byte-and-rest (word / 0x100)))
+    (rw (third) at (byte-and-rest (word / 0x1_0000))))
 
 pub read-again : (words : List ℕ) (n : ℕ) → n ≤ length words → ((i : ℕ) → getD words i 0 < 2 ^ 32)
     → wordsOf (bytesOf words (n * 4)) n ≡ take n words

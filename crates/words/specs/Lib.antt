@@ -1,2 +1,3 @@
--- Words as bytes.
+-- Words as bytes; then words that are computed.
 pub mod Words
+pub mod Cases

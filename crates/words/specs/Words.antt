@@ -1,7 +1,7 @@
 -- Words as the programs read and write them: four bytes each, the lowest first.
 use mathlib.Core.List.{List, [], _∷_, _++_}
-use Prim.Native.Nat.{ℕ, zero, suc, _+_, _*_, _/_, _%_, _^_}
-use lib.ListN.{getD}
+use Prim.Native.Nat.{ℕ, zero, suc, _+_, _*_, _/_, _%_, _^_, min}
+use lib.ListN.{getD, length}
 
 -- the word at a place of a list of bytes; a byte past the list's end counts as 0
 abbrev pub wordAt : List ℕ → ℕ → ℕ
@@ -17,6 +17,10 @@ placed f (suc n) = placed f n ++ f n ∷ []
 -- the first words of an input
 abbrev pub wordsOf : List ℕ → ℕ → List ℕ
 wordsOf input n = placed (wordAt input) n
+
+-- all of them, at most so many
+abbrev pub wordsRead : List ℕ → ℕ → List ℕ
+wordsRead input most = wordsOf input (min (length input / 4) most)
 
 -- the byte at a place of a list of words, and the first so many of them
 abbrev pub byteAt : List ℕ → ℕ → ℕ

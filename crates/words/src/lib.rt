@@ -4,7 +4,7 @@ ghost use mathlib.Core.Path.{_≡_};
 ghost use mathlib.Core.List.{_++_};
 ghost use Prim.Native.Nat.{_+_, _*_, _/_, _%_, _^_, _<_, min};
 ghost use lib.ListN.{drop, length};
-ghost use Rattle.words.specs.Words.{byteAt, bytesOf, wordAt, wordsOf};
+ghost use Rattle.words.specs.Words.{bytesOf, wordAt, wordsOf};
 
 // How many bytes spell a word.
 pub const WORD_BYTES: usize = 4;

@@ -1,10 +1,7 @@
 use Prim.Native.Nat.{ℕ, zero}
 use native.Mathlib.Omega.{arith}
-use mathlib.Core.Path.{_≡_, _∙_, ap}
-use lib.ListN.{length, length-replicate, replicate, take}
-use lib.Seq.{take-at}
-use Rattle.words.specs.Words.{wordAt, wordsOf}
-use Rattle.words.proofs.Placed.{placed-length}
+use mathlib.Core.Path.{_≡_, _∙_}
+use lib.ListN.{length, length-replicate, replicate}
 use Rattle.iebus_dump.specs.Dump.{mostWords}
 use Rattle.iebus_dump.proofs.Fits.{fits}
 use Rattle.iebus_dump.proofs.Pieces.{named}
@@ -40,12 +37,9 @@ dumped-spec =
     let list = words .put-words .last .1 .0 in
     let places : length (replicate mostWords zero) ≡ mostWords = length-replicate {0} {A = ℕ} mostWords 0 in
     let counted = words .put-words .ensures in
-    let front =
-    ap (take (words .put-words .result)) (counted .1) ∙ take-at (wordsOf input _) _ _ (placed-length (wordAt input) _)
-    in
-    let is = slots-made input list (counted .0) places front in
+    let is = slots-made input list _ (counted .0) places (counted .1) in
     let made =
-    text-made (read .read-log .result) input list (read .read-log .last .1 .1 .0) (counted .0) places front
+    text-made (read .read-log .result) input list (read .read-log .last .1 .1 .0) (counted .0) places is
     (last .before .last-number .ensures .0) (last .shown .ensures .0) (last .shown .ensures .1)
     in
     let right =

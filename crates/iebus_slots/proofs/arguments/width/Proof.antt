@@ -20,7 +20,7 @@ width-spec =
     (λ c. no-digit _ (c .if1 .taken))
     (λ c. nothing-read _)
     (λ c. search needs)
-    (λ c κs. c .before .before .loop .inv .least)
+    (λ c κs. c .before .before .loop .inv .small)
     (λ c. search needs)
     (λ c. search needs)
     (λ c. one-read (c .before .before .before .loop .inv) (c .before .before .loop-test .taken)
