@@ -94,4 +94,5 @@ pub record Relied (s : Setting) : Type 0 where
   pub exact : Disjoint s → (pulses widths : List ℕ) → TrueWidths pulses widths → (i : ℕ) → i < length pulses
       → (getD (slotsOf s pulses) i slotIdle ≡ slotIdle → ⊥)
       → getD (exactSlots s widths) i slotIdle ≡ getD (slotsOf s pulses) i slotIdle
+  -- and that is what the conversion makes of widths that were measured so
   pub measured : (widths : List ℕ) → Widths widths → slotsOf s (map exactly widths) ≡ exactSlots s widths
