@@ -9,10 +9,11 @@ use Prim.Native.Nat.{ℕ, suc, _/_, _%_, _*_, _≤_}
 use lib.Dec.{lit≤}
 use Rattle.line.specs.Numbers.{contestSlots}
 use Rattle.line.specs.Parity as parity
-use Rattle.contenders.specs.Contest.{alike, firstOut, firstPlace, firstTwin, inRange, lossOf, lossesOf, numberOf}
+use Rattle.contenders.specs.Contest.{alike, firstOut, firstTwin, inRange, lossOf, lossesOf, numberOf}
 use Rattle.contenders.specs.Contest.{remaining, settled}
 use Rattle.contenders.specs.Cases.{broadcast, ordinary}
 use Rattle.contenders.specs.declared.Contender.{Contender}
+use Rattle.line.specs.Places.{firstPlace}
 use Rattle.isolation.specs.Runs.{run}
 use Rattle.rules.specs.State.{State, reset}
 use Rattle.rules.specs.Machine.{unit}

@@ -13,10 +13,11 @@ use Rattle.line.specs.Numbers.{contestSlots, driveStart, highestAddress, lastCo
 use Rattle.line.proofs.Either.{below-or-not, both, either}
 use Rattle.line.proofs.Places.{getD-map}
 use Rattle.line.specs.Parity.{levelOf}
-use Rattle.contenders.specs.Contest.{Wins, firstOut, firstPlace, inRange, lossOf, lossesOf, nobody, numberOf}
+use Rattle.contenders.specs.Contest.{Wins, firstOut, inRange, lossOf, lossesOf, nobody, numberOf}
 use Rattle.contenders.specs.Contest.{outOfRange, winnerOf}
 use Rattle.contest.specs.Deciding.{Fair}
 use Rattle.contenders.specs.declared.Contender.{Contender}
+use Rattle.line.specs.Places.{firstPlace}
 use Rattle.contest.proofs.Winner.{length-losses}
 use Rattle.rules.specs.State.{State, reset}
 use Rattle.rules.specs.Step.{answerOf, nextDrive, stepOf}

@@ -1,7 +1,7 @@
 -- What each loop over the pulses keeps from turn to turn.
-use mathlib.Core.Bool.{Bool, false, _||_, or-assoc, or-false}
-use mathlib.Core.List.{List, _++_}
-use mathlib.Core.Path.{_≡_, refl, sym, ap, _∙_}
+use mathlib.Core.Bool.{false, _||_}
+use mathlib.Core.List.{List, [], _∷_, _++_}
+use mathlib.Core.Path.{_≡_, refl, _∙_}
 use Prim.Native.Nat.{ℕ, _+_, _<_, _≤_}
 use native.Mathlib.Omega.{arith}
 use lib.ListN.{drop, drop-of-length-le, getD, length, set}
@@ -10,29 +10,15 @@ use Rattle.line.proofs.Places.{cut}
 use Rattle.pulses.specs.declared.Setting.{Setting}
 use Rattle.pulses.specs.Symbols.{badIn, badPulse, leastIn, mostIn, slotsOf, symbolOf}
 
--- ---- bad_pulses: i pulses have been looked at
+-- ---- bad_pulses: a pulse with least above most, among some
 
-pub record Looked (pulses : List ℕ) (bad : Bool) (i : ℕ) : Type 0 where
-  pub within : i ≤ length pulses
-  pub found : badIn pulses ≡ (bad || badIn (drop i pulses))
-
-pub looked-none : (pulses : List ℕ) → Looked pulses false 0
-looked-none pulses = record { within = omega arith; found = refl }
-
-pub looked-one : {pulses : List ℕ} {bad : Bool} {i : ℕ} (here : Bool) → Looked pulses bad i → i < length pulses
-    → here ≡ badPulse (getD pulses i 0) → Looked pulses (bad || here) (i + 1)
+pub none-bad : badIn [] ≡ false
 unfolding badIn
-looked-one {pulses} {bad} {i} here l h e = record {
-  within = omega arith;
-  found = l .found
-      ∙ ap (λ (ps : List ℕ). bad || badIn ps) (cut pulses i h)
-      ∙ rw (← e) (sym (or-assoc bad here (badIn (drop (i + 1) pulses))));
-}
+none-bad = refl
 
-pub looked-all : {pulses : List ℕ} {bad : Bool} {i : ℕ} → Looked pulses bad i → length pulses ≤ i → bad ≡ badIn pulses
+pub one-bad : (p : ℕ) (ps : List ℕ) → badIn (p ∷ ps) ≡ (badPulse p || badIn ps)
 unfolding badIn
-looked-all {pulses} {bad} {i} l end =
-    sym (l .found ∙ ap (λ (ps : List ℕ). bad || badIn ps) (drop-of-length-le pulses end) ∙ or-false bad)
+one-bad p ps = refl
 
 -- ---- put_slots: i pulses have their slots
 

@@ -6,7 +6,8 @@ use Prim.Native.Nat.{ℕ, zero, suc}
 use lib.ListN.{replicate}
 use Rattle.line.specs.Cases.{Case, _gives_, allGiven}
 use Rattle.line.specs.Parity.{levelOf}
-use Rattle.contenders.specs.Contest.{numberOf, settled, remaining, lossOf, lossesOf, winnerOf, firstPlace}
+use Rattle.contenders.specs.Contest.{numberOf, settled, remaining, lossOf, lossesOf, winnerOf}
+use Rattle.line.specs.Places.{firstPlace}
 use Rattle.contenders.specs.Contest.{alike, contestOf, firstTwin, inRange, numbersAfter}
 use Rattle.contenders.specs.Contest.{verdictOf}
 use Rattle.contenders.specs.declared.Contender.{Contender}

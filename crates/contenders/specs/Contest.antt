@@ -11,6 +11,7 @@ use Rattle.line.specs.Parity.{levelOf}
 use Rattle.line.specs.Numbers.{contestSlots, highestAddress, lastContestSlot, mostContenders}
 use Rattle.line.specs.Numbers.{refusedShortList, refusedContenderCount, refusedContenderRange}
 use Rattle.line.specs.Numbers.{refusedContendersAlike}
+use Rattle.line.specs.Places.{firstPlace}
 use Rattle.contenders.specs.declared.Contender.{Contender}
 use Rattle.contenders.specs.declared.Contenders.{Contenders}
 use Rattle.contenders.specs.declared.Outcome.{Outcome}
@@ -44,11 +45,6 @@ withContender all place b a =
     pick (ltb place mostContenders)
     (record { count = all .count; list = set (all .list) place (record { bit = b; address = a }) })
     all
-
--- the first place at which a test holds, the length where it holds at none
-unfoldable pub firstPlace : {A : Type 0} → (A → Bool) → List A → ℕ
-firstPlace test [] = 0
-firstPlace test (x ∷ xs) = pick (test x) 0 (firstPlace test xs + 1)
 
 -- ---- What is refused
 

@@ -11,13 +11,14 @@ use lib.ListN.{length, drop, getD, set, length-drop, drop-of-length-le}
 use lib.Seq.{drop-cons}
 use Rattle.line.specs.Numbers.{contestSlots, lastContestSlot}
 use Rattle.line.specs.Parity.{levelOf}
-use Rattle.contenders.specs.Contest.{nobody, contendersOf, firstPlace, firstTwin, firstAlikeFrom, alike, numberOf}
+use Rattle.contenders.specs.Contest.{nobody, contendersOf, firstTwin, firstAlikeFrom, numberOf}
 use Rattle.contest.specs.Deciding.{differs, differences, Least, Losses}
 use Rattle.contenders.specs.declared.Contender.{Contender}
 use Rattle.contenders.specs.declared.Contenders.{Contenders}
 use Rattle.line.proofs.Filled.{Filled, nothing-filled, one-filled, all-filled}
-use Rattle.contest.proofs.Places.{length-firstOf, getD-firstOf, Passed, passed-none, passed-one}
-use Rattle.contest.proofs.Places.{passed-here, passed-all, twin-here, twin-later, twin-nil}
+use Rattle.line.proofs.First.{Passed, passed-all, passed-here, passed-none, passed-one}
+use Rattle.line.specs.Places.{firstPlace}
+use Rattle.contest.proofs.Places.{getD-firstOf, length-firstOf, twin-here, twin-later, twin-nil}
 
 pub contenders-length : (all : Contenders) → length (contendersOf all) ≡ all .count
 unfolding contendersOf

@@ -17,7 +17,8 @@ use Rattle.contest.specs.Deciding.{differs, differences, Fair, Least}
 use Rattle.contenders.specs.declared.Contender.{Contender}
 use Rattle.line.proofs.Either.{below-or-not, both}
 use Rattle.line.proofs.Places.{getD-map}
-use Rattle.contest.proofs.Places.{first-none, first-is, none-again}
+use Rattle.line.proofs.First.{first-is, first-none}
+use Rattle.contest.proofs.Places.{none-again}
 use Rattle.contest.proofs.Slots.{Close, AllClose, Among, loss-differs, differs-self, differs-none}
 use Rattle.contest.proofs.Slots.{differs-slot}
 

@@ -23,7 +23,7 @@ use Rattle.logs.specs.Records.{wordsOf as recordsWords}
 use Rattle.text.specs.declared.last.Last.the-variants.{Nothing, Short, More}
 use Rattle.text.specs.Last.{lastText}
 use Rattle.words.specs.Words.{wordsOf}
-use Rattle.words.proofs.Placed.{read-count, read-front}
+use Rattle.words.proofs.Words.{read-count, read-front}
 use Rattle.iebus_dump.specs.Line.{frameOf, lineOf}
 use Rattle.iebus_dump.specs.Dump.{dumpOf, header, lastOf, linesOf, mostWords, refused, slotsOf, startsFrom}
 use Rattle.iebus_dump.specs.Dump.{wholeOf}

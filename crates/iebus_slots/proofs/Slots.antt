@@ -13,7 +13,8 @@ use Rattle.pulses.specs.Conversion.{Converted, endOf, writtenOf}
 use Rattle.pulses.specs.Symbols.{leastIn, mostIn, slotsOf}
 use Rattle.pulses.proofs.Symbols.{symbol-small}
 use Rattle.words.specs.Words.{byteAt, bytesOf, wordsOf}
-use Rattle.words.proofs.Placed.{placed-length, read-again, read-count, read-front}
+use Rattle.words.proofs.Words.{read-again, read-count, read-front}
+use Rattle.line.proofs.Placed.{placed-length}
 use Rattle.iebus_slots.specs.Output.{ReadAgain, givenOf, measuredOf, mostPulses, outputOf, pulsesOf, slotsFor}
 
 -- the pulses that a list of so many places takes

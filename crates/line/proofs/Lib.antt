@@ -3,3 +3,6 @@ pub mod Either
 pub mod Levels
 pub mod Filled
 pub mod Places
+pub mod Placed
+pub mod First
+pub mod Looked

@@ -84,6 +84,9 @@ refusedRanges = 19
 abbrev pub refusedPulse : ℕ
 refusedPulse = 20
 
+abbrev pub refusedWindow : ℕ
+refusedWindow = 25
+
 -- Refused because of the state
 abbrev pub refusedLevel : ℕ
 refusedLevel = 5
@@ -231,6 +234,10 @@ contestSlots = 13
 
 abbrev pub lastContestSlot : ℕ
 lastContestSlot = 14
+
+-- The load: "among the latest w, w from 1 to 4,096"
+abbrev pub mostWindow : ℕ
+mostWindow = 4096
 
 -- How a frame of a log ended, as its record has it: "whole, short after a complete attempt, NAK at slave address,
 -- control or length, broken off in which field"

@@ -57,6 +57,8 @@ pub const REFUSED_RANGES: u8 = 19;
 
 pub const REFUSED_PULSE: u8 = 20;
 
+pub const REFUSED_WINDOW: u8 = 25;
+
 // Refused because of the state.
 pub const REFUSED_LEVEL: u8 = 5;
 
@@ -158,6 +160,9 @@ pub const HIGHEST_ADDRESS: u16 = 0xFFF;
 pub const CONTEST_SLOTS: u32 = 13;
 
 pub const LAST_CONTEST_SLOT: u32 = 14;
+
+// The load: "among the latest w, w from 1 to 4,096".
+pub const MOST_WINDOW: u32 = 4096;
 
 // How a frame of a log ended, as its record has it: "whole, short after a complete attempt, NAK at slave address,
 // control or length, broken off in which field".

@@ -2,6 +2,8 @@
 // whose contract it keeps. No function has a `requires`, and nothing is assumed.
 ghost use mathlib.Core.Path.{_≡_};
 ghost use Rattle.contenders.specs.Contest.{ContestedWord, NamedRightly, contendersOf, verdictIn};
+ghost use Rattle.loads.specs.Load.{CalledLoad};
+ghost use Rattle.loads.specs.Relied.{Relied as ReliedLoads};
 ghost use Rattle.logs.specs.Log.{CalledLog, longIn};
 ghost use Rattle.logs.specs.Relied.{Relied};
 ghost use Rattle.pulses.specs.Conversion.{CalledSlots, numberOf, rangeIn, settingIn};
@@ -13,7 +15,10 @@ use line::numbers::REFUSED_NO_SLOT;
 use line::numbers::REFUSED_PULSE;
 use line::numbers::REFUSED_RANGES;
 use line::numbers::REFUSED_SHORT_LIST;
+use line::numbers::REFUSED_WINDOW;
+use loads::Loaded;
 use logs::LogRead;
+use meter::load;
 use pulses::Measured;
 use pulses::Range;
 use pulses::Setting;
@@ -113,4 +118,34 @@ pub extern "C" fn iebus_slots(
 {
     let measured = slots_of_pulses(setting(zero, one, start), pulses, slots);
     measured_number(measured)
+}
+
+// The figure after every slot of a log, and the largest with the first place where it was reached: 0, or 12, 25 or 16.
+#[no_mangle]
+pub extern "C" fn iebus_load(
+    w: u32,
+    slots: &[u32],
+    figures: &mut [u32],
+    largest: &mut u32,
+    place: &mut u64,
+) -> u32
+    ensures whole { λ r. ⌜ CalledLoad w (now (slots .entry)) (now (figures .entry)) (now (largest .entry))
+        (now (place .entry)) r (now (figures .exit)) (now (largest .exit)) (now (place .exit)) ⌝ }
+    ensures relied { λ _. ⌜ ReliedLoads w ⌝ }
+{
+    let loaded = load(w, slots, figures);
+    match loaded {
+        Loaded::Peak(most, first) => {
+            *largest = most;
+            *place = first as u64;
+            0
+        }
+        Loaded::Empty => {
+            *largest = 0;
+            0
+        }
+        Loaded::ShortList => REFUSED_SHORT_LIST as u32,
+        Loaded::BadWindow => REFUSED_WINDOW as u32,
+        Loaded::NoSlot => REFUSED_NO_SLOT as u32,
+    }
 }

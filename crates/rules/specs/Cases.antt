@@ -6,7 +6,8 @@ use mathlib.Core.List.{List, [], _∷_, _++_}
 use Rattle.line.specs.Cases.{Case, _gives_, allGiven, lineCases}
 use Rattle.line.specs.Choice.{_▹_}
 use Rattle.contenders.specs.Cases.{contestCases}
-use Rattle.contenders.specs.Contest.{numberOf, settled, remaining, lossOf, lossesOf, firstPlace}
+use Rattle.contenders.specs.Contest.{numberOf, settled, remaining, lossOf, lossesOf}
+use Rattle.line.specs.Places.{firstPlace}
 use Rattle.place.specs.Cases.{answered, field, frameCases, heard, slotsTaken, spoilt}
 use Rattle.isolation.specs.Runs.{answers}
 use Rattle.rules.specs.State.{reset, statusByte, resetRegisters}

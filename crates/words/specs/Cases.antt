@@ -2,9 +2,9 @@
 use mathlib.Core.Bool.{true}
 use mathlib.Core.List.{List, [], _∷_}
 use mathlib.Core.Path.{_≡_, refl}
-use Prim.Native.Nat.{ℕ}
 use Rattle.line.specs.Cases.{Case, _gives_, allGiven}
-use Rattle.words.specs.Words.{bytesOf, placed, wordsOf}
+use Rattle.line.specs.Places.{placed}
+use Rattle.words.specs.Words.{bytesOf, wordsOf}
 
 -- read, also where bytes are left over or missing, and written, also in part
 abbrev wordCases : List Case

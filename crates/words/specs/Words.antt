@@ -1,18 +1,14 @@
 -- Words as the programs read and write them: four bytes each, the lowest first.
-use mathlib.Core.List.{List, [], _∷_, _++_}
-use Prim.Native.Nat.{ℕ, zero, suc, _+_, _*_, _/_, _%_, _^_, min}
+use mathlib.Core.List.{List}
+use Prim.Native.Nat.{ℕ, _+_, _*_, _/_, _%_, _^_, min}
 use lib.ListN.{getD, length}
+use Rattle.line.specs.Places.{placed}
 
 -- the word at a place of a list of bytes; a byte past the list's end counts as 0
 abbrev pub wordAt : List ℕ → ℕ → ℕ
 wordAt bytes place =
     getD bytes (place * 4) 0 + getD bytes (place * 4 + 1) 0 * 0x100 + getD bytes (place * 4 + 2) 0 * 0x1_0000
     + getD bytes (place * 4 + 3) 0 * 0x100_0000
-
--- so many elements, each by its place
-unfoldable pub placed : (ℕ → ℕ) → ℕ → List ℕ
-placed f zero = []
-placed f (suc n) = placed f n ++ f n ∷ []
 
 -- the first words of an input
 abbrev pub wordsOf : List ℕ → ℕ → List ℕ

@@ -3,7 +3,7 @@ use native.Mathlib.Omega.{arith}
 use mathlib.Core.Path.{_≡_}
 use Prim.Native.Nat.{_-_, _≤_}
 use Rattle.words.specs.Words.{wordAt}
-use Rattle.words.proofs.Placed.{Placed, all-placed, none-placed, one-placed}
+use Rattle.line.proofs.Placed.{Placed, all-placed, none-placed, one-placed}
 use Rattle.words.proofs.put_words.Statement.{statement}
 use Rattle.words.proofs.put_words.Tie as tie
 

@@ -1,0 +1,2 @@
+-- What private functions cite.
+pub mod Counting
