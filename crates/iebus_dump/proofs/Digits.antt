@@ -7,7 +7,8 @@ use native.Mathlib.Omega.{arith}
 use lib.Dec.{ltb}
 use Rattle.line.specs.Choice.{pick}
 use Rattle.text.specs.Hex.{digitOf, hexOf}
-use Rattle.iebus_dump.specs.Line.{bitColumn, bytesOf, controlColumn, controlName, decimalOf, padded}
+use Rattle.pieces.specs.Pieces.{bytesOf}
+use Rattle.iebus_dump.specs.Line.{bitColumn, controlColumn, controlName, decimalOf, padded}
 use Rattle.iebus_dump.specs.Line.{lengthColumn, routeColumn}
 use Rattle.iebus_dump.specs.Writing.{digitShown, kindBy}
 

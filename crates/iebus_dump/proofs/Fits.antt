@@ -15,7 +15,8 @@ use Rattle.logs.specs.Records.{wordsOf as recordsWords}
 use Rattle.text.specs.declared.last.Last.{Last}
 use Rattle.text.specs.declared.last.Last.the-variants.{Nothing, Short, More}
 use Rattle.text.specs.Last.{lastText}
-use Rattle.iebus_dump.specs.Line.{Frame, bitColumn, bytesColumn, bytesOf, controlColumn, controlName, controls}
+use Rattle.pieces.specs.Pieces.{bytesOf}
+use Rattle.iebus_dump.specs.Line.{Frame, bitColumn, bytesColumn, controlColumn, controlName, controls}
 use Rattle.iebus_dump.specs.Line.{endingColumn, fieldsOf, frameOf, lengthColumn, lineOf, markColumn, padded}
 use Rattle.iebus_dump.specs.Line.{routeColumn}
 use Rattle.iebus_dump.specs.Dump.{dumpBytes, header, lastOf, linesOf, refused, slotsOf, startsFrom, wholeOf}

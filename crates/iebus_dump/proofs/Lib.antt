@@ -1,5 +1,4 @@
 -- The laws that the proofs share.
-pub mod Pieces
 pub mod Tables
 pub mod Digits
 pub mod Written

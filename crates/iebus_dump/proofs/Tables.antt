@@ -13,7 +13,8 @@ use Rattle.line.specs.Choice.{pick}
 use Rattle.text.specs.Last.{lastText}
 use Rattle.line.proofs.Either.{both, by-value}
 use Rattle.logs.specs.Relied.{fieldsAt}
-use Rattle.iebus_dump.specs.Line.{bytesOf, controlName, endingColumn, markColumn, padded}
+use Rattle.pieces.specs.Pieces.{bytesOf}
+use Rattle.iebus_dump.specs.Line.{controlName, endingColumn, markColumn, padded}
 use Rattle.iebus_dump.specs.Writing.{lastAt, nameBy}
 
 alike : (xs ys : List ℕ) → same xs ys ≡ true → xs ≡ ys

@@ -8,7 +8,7 @@ use Prim.Native.Nat.{ℕ, suc, _+_, _*_, _-_, _≤_, min, _/_, _%_}
 use native.Mathlib.Omega.{arith}
 use borrow.Author.Tests.{le-ltb}
 use lib.Dec.{eqb, ltb}
-use lib.ListN.{length, take, drop, length-take}
+use lib.ListN.{length, take, drop}
 use lib.Seq.{append-snoc, take-all, take-take}
 use Rattle.line.specs.Choice.{bitOf, pick}
 use Rattle.line.specs.Numbers.{slotStart}
@@ -25,12 +25,11 @@ use Rattle.text.specs.Last.{lastText}
 use Rattle.words.specs.Words.{wordsOf}
 use Rattle.words.proofs.Words.{read-count, read-front}
 use Rattle.iebus_dump.specs.Line.{frameOf, lineOf}
-use Rattle.iebus_dump.specs.Dump.{dumpOf, header, lastOf, linesOf, mostWords, refused, slotsOf, startsFrom}
+use Rattle.iebus_dump.specs.Dump.{header, lastOf, linesOf, mostWords, refused, slotsOf, startsFrom}
 use Rattle.iebus_dump.specs.Dump.{wholeOf}
-use Rattle.iebus_dump.specs.Writing.{Put, ackedBy, aheadBy, fitting, frameIn, lastAt, lastBy, linesIn}
+use Rattle.iebus_dump.specs.Writing.{ackedBy, aheadBy, frameIn, lastAt, lastBy, linesIn}
 use Rattle.iebus_dump.specs.Writing.{shownBy, slotLine, textBy, usedBy}
 use Rattle.iebus_dump.proofs.Frames.{Sound, line-right, past-right}
-use Rattle.iebus_dump.proofs.Written.{take-min}
 
 pub data AllSound : List Record → Type 0 where
   none : AllSound []
@@ -224,30 +223,3 @@ pub text-right : {long : Bool} (relied : Relied long) (input : List ℕ) {before
 text-right relied input reading room =
     ⊎-elim (refused-right input reading room) (frames-right relied input reading room)
     (either (strayIn (slotsOf input)))
-
--- what has been put from the beginning on, as far as there was room
-pub record Dumped (long : Bool) (input text : List ℕ) (end : ℕ) (after : List ℕ) : Type 0 where
-  pub count : end ≡ length (dumpOf long input (length text))
-  pub written : after ≡ dumpOf long input (length text) ++ drop end text
-  pub within : end ≤ length text
-
-pub dumped : {long : Bool} {input text after : List ℕ} {end : ℕ} → Put text 0 (wholeOf long input) end after
-    → Dumped long input text end after
-unfolding dumpOf
-dumped {long} {input} {text} {after} {end} put =
-    let whole : List ℕ = wholeOf long input in
-    let long-enough : length (take (length text) whole) ≡ min (length text) (length whole) =
-    length-take (length text) whole
-    in
-    let so-many : fitting text 0 whole ≡ min (length text) (length whole) = omega arith in
-    let ends : end ≡ 0 + fitting text 0 whole = put .ends in
-    let from-zero : 0 + fitting text 0 whole ≡ end = sym ends in
-    record {
-      count = omega arith;
-      written =
-          put .written
-          ∙ ap (λ (n : ℕ). take (fitting text 0 whole) whole ++ drop n text) from-zero
-          ∙ ap (λ (n : ℕ). take n whole ++ drop end text) so-many
-          ∙ ap (λ (l : List ℕ). l ++ drop end text) (take-min whole (length text));
-      within = omega arith;
-    }

@@ -12,12 +12,14 @@ use lib.Seq.{drop-cons, drop-drop, take-all, take-suc}
 use Rattle.line.specs.Choice.{pick}
 use Rattle.line.specs.Numbers.{slotStart}
 use Rattle.line.proofs.Either.{below-or-not}
+use Rattle.line.proofs.Places.{take-min}
 use Rattle.text.specs.Hex.{digitOf, hexOf}
 use Rattle.iebus_dump.specs.Line.{bytesColumn, endingColumn, fieldsOf, lineOf, markColumn}
-use Rattle.iebus_dump.specs.Writing.{LinesUpTo, Put, ackedBy, aheadBy, frameBy, frameIn, linesIn}
+use Rattle.iebus_dump.specs.Writing.{LinesUpTo, ackedBy, aheadBy, frameBy, frameIn, linesIn}
 use Rattle.iebus_dump.specs.Writing.{slotLine, usedBy}
+use Rattle.pieces.specs.Pieces.{Put}
 use Rattle.iebus_dump.proofs.Digits.{hex-two}
-use Rattle.iebus_dump.proofs.Pieces.{nothing, then}
+use Rattle.pieces.proofs.Pieces.{nothing, then}
 
 bytes-behind : (bs : List ℕ) (b : ℕ) → bytesColumn (bs ++ b ∷ []) ≡ bytesColumn bs ++ (0x20 ∷ hexOf 2 b)
 unfolding bytesColumn
@@ -54,18 +56,6 @@ drop-min l n =
     (λ (h : n ≤ length l).
     let is : min n (length l) ≡ n = omega arith in
     ap (λ (k : ℕ). drop k l) is)
-    (below-or-not (length l) n)
-
-pub take-min : (l : List ℕ) (n : ℕ) → take (min n (length l)) l ≡ take n l
-take-min l n =
-    ⊎-elim
-    (λ (h : length l < n).
-    let end : length l ≤ min n (length l) = omega arith in
-    let past : length l ≤ n = omega arith in
-    take-all (min n (length l)) l end ∙ sym (take-all n l past))
-    (λ (h : n ≤ length l).
-    let is : min n (length l) ≡ n = omega arith in
-    ap (λ (k : ℕ). take k l) is)
     (below-or-not (length l) n)
 
 -- so many elements from a place on, cut at the list's end
@@ -120,16 +110,16 @@ no-lines : (place : ℕ) (words : List ℕ) → linesIn place [] words ≡ []
 unfolding linesIn
 no-lines place words = refl
 
-pub begun : (slots words text : List ℕ) {at : ℕ} → at ≤ length text → LinesUpTo slots words text at 0 0 at text
-begun slots words text within = record { front = []; put = nothing text within; rest = refl }
+pub begun : (slots words text : List ℕ) (at : ℕ) → LinesUpTo slots words text at 0 0 at text
+begun slots words text at = record { front = []; put = nothing text at; rest = refl }
 
 pub one-more : {slots words text after later part : List ℕ} {at i next end further following : ℕ}
-    → at ≤ length text → LinesUpTo slots words text at i next end after → i < length slots
+    → LinesUpTo slots words text at i next end after → i < length slots
     → part ≡ drop next words → Put after end (slotLine i (getD slots i 0) part) further later
     → following ≡ min (next + usedBy (getD slots i 0) part) (length words)
     → LinesUpTo slots words text at (i + 1) following further later
 one-more {slots} {words} {text} {after} {later} {part} {at} {i} {next} {end} {further} {following}
-    within up more is line goes =
+    up more is line goes =
     let left : List ℕ = drop next words in
     let slot : ℕ = getD slots i 0 in
     let behind : drop following words ≡ drop (usedBy slot left) left =
@@ -139,7 +129,7 @@ one-more {slots} {words} {text} {after} {later} {part} {at} {i} {next} {end} {fu
     in
     record {
       front = up .front ++ slotLine i slot part;
-      put = then within (up .put) line;
+      put = then (up .put) line;
       rest =
           ap (λ (l : List ℕ). up .front ++ slotLine i slot l
           ++ linesIn (i + 1) (drop (i + 1) slots) (drop following words))

@@ -1,7 +1,7 @@
 -- What is printed for an input: a header, a line for each frame, a last line.
 use mathlib.Core.Bool.{Bool}
 use mathlib.Core.List.{List, [], _∷_, _++_}
-use Prim.Native.Nat.{ℕ, suc, _+_, _*_, _/_, _%_, min}
+use Prim.Native.Nat.{ℕ, suc, _+_, _*_, _%_}
 use lib.Dec.{eqb, ltb}
 use lib.ListN.{length, take}
 use Rattle.line.specs.Choice.{pick}
@@ -12,7 +12,8 @@ use Rattle.text.specs.declared.last.Last.{Last}
 use Rattle.text.specs.declared.last.Last.the-variants.{Nothing, Short, More}
 use Rattle.text.specs.Last.{lastText}
 use Rattle.words.specs.Words.{wordsRead}
-use Rattle.iebus_dump.specs.Line.{bytesOf, frameOf, lineOf}
+use Rattle.pieces.specs.Pieces.{bytesOf}
+use Rattle.iebus_dump.specs.Line.{frameOf, lineOf}
 
 -- at most so many words are read
 abbrev pub mostWords : ℕ

@@ -2,14 +2,14 @@
 -- and how it ended. A column of a field that is not given has dashes.
 use mathlib.Core.Bool.{Bool}
 use mathlib.Core.List.{List, [], _∷_, _++_, map}
-use Prim.Native.Char.{code}
 use Prim.Native.Nat.{ℕ, zero, suc, _/_, _%_, _^_}
-use Prim.Native.String.{String, [] as no-character, _∷_ as _and-then_}
+use Prim.Native.String.{String}
 use lib.Dec.{eqb, ltb}
 use lib.ListN.{getD, length, replicate, take}
 use Rattle.line.specs.Choice.{pick}
 use Rattle.logs.specs.Readings.{bitIn, bytesIn, controlIn, lengthOf, masterIn, slaveIn}
 use Rattle.logs.specs.Records.{Record}
+use Rattle.pieces.specs.Pieces.{bytesOf}
 use Rattle.text.specs.Hex.{digitOf, hexOf}
 
 -- what is shown of a frame: how many of its five fields are given, these fields, the ACKed bytes, the number of its
@@ -38,11 +38,6 @@ frameOf r = record {
   ending = r .reading .text .ending;
   again = r .again;
 }
-
--- a text as bytes
-abbrev pub bytesOf : String → List ℕ
-bytesOf no-character = []
-bytesOf (c and-then s) = code c ∷ bytesOf s
 
 -- the lowest decimal digits of a number, so many, the highest first
 unfoldable pub decimalOf : ℕ → ℕ → List ℕ

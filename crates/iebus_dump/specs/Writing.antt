@@ -1,31 +1,21 @@
--- What private functions cite: a piece written into a text, and a frame's line by the words of its record.
+-- What private functions cite: a frame's line by the words of its record.
 use mathlib.Core.Bool.{Bool}
 use mathlib.Core.Path.{_≡_}
 use mathlib.Core.List.{List, [], _∷_, _++_}
-use Prim.Native.Nat.{ℕ, suc, _+_, _*_, _-_, _/_, _%_, _≤_, min}
+use Prim.Native.Nat.{ℕ, suc, _+_, _*_, _/_, _%_}
 use lib.Dec.{eqb, ltb}
 use lib.ListN.{length, take, drop, getD}
-use lib.Seq.{paste}
 use Rattle.line.specs.Choice.{pick}
 use Rattle.line.specs.Numbers.{slotStart}
 use Rattle.logs.specs.declared.LogRead.{LogRead}
 use Rattle.logs.specs.declared.LogRead.the-variants.{Frames, ShortList, NoSlot}
 use Rattle.logs.specs.Relied.{fieldsAt}
+use Rattle.pieces.specs.Pieces.{Put}
 use Rattle.text.specs.Hex.{digitOf}
 use Rattle.text.specs.declared.last.Last.the-variants.{Short, More}
 use Rattle.text.specs.Last.{lastText}
 use Rattle.iebus_dump.specs.Line.{Frame, bitColumn, lineOf}
 use Rattle.iebus_dump.specs.Dump.{header, mostWords, refused}
-
--- how many bytes of a piece have room in a text from a place on
-abbrev pub fitting : List ℕ → ℕ → List ℕ → ℕ
-fitting text at piece = min (length piece) (length text - at)
-
--- a piece has been written over a text from a place on, up to another, as far as there was room
-pub record Put (text : List ℕ) (at : ℕ) (piece : List ℕ) (end : ℕ) (after : List ℕ) : Type 0 where
-  pub within : end ≤ length after
-  pub ends : end ≡ at + fitting text at piece
-  pub written : after ≡ paste text at piece (fitting text at piece)
 
 abbrev pub digitShown : Bool → ℕ → ℕ
 digitShown given n = pick given (digitOf n) 0x2D

@@ -4,7 +4,8 @@ ghost use mathlib.Core.List.{[], _++_};
 ghost use Prim.Native.Nat.{_%_, _<_, _≤_};
 ghost use lib.ListN.{length, getD};
 ghost use Rattle.iebus_dump.specs.Line.{bytesColumn, endingColumn, fieldsOf, markColumn};
-ghost use Rattle.iebus_dump.specs.Writing.{Put, ackedBy, aheadBy, frameBy, linesIn, slotLine, usedBy};
+ghost use Rattle.pieces.specs.Pieces.{Put};
+ghost use Rattle.iebus_dump.specs.Writing.{ackedBy, aheadBy, frameBy, linesIn, slotLine, usedBy};
 use crate::columns::ENDING_PLACES;
 use crate::columns::digit;
 use crate::columns::given;
@@ -13,9 +14,9 @@ use crate::columns::length;
 use crate::columns::mark_place;
 use crate::columns::name_place;
 use crate::columns::route;
-use crate::put::least;
-use crate::put::put;
 use line::numbers::SLOT_START;
+use pieces::least;
+use pieces::put;
 
 fn word(words: &[u32], at: usize) -> u32
     ensures { λ r. ⌜ r ≡ getD (now (words .entry)) at 0 ⌝ }
@@ -44,7 +45,7 @@ fn acked(first: u32) -> usize
 
 // The columns of the five fields.
 fn put_fields(text: &mut [u8], at: usize, place: usize, first: u32, second: u32) -> usize
-    requires { ⌜ (at ≤ length (now text)) × (place < 16384) ⌝ }
+    requires { ⌜ place < 16384 ⌝ }
     ensures { λ r. ⌜
         Put (now (text .entry)) at (fieldsOf place (frameBy first second [])) r (now (text .exit)) ⌝ }
 {
@@ -66,7 +67,6 @@ fn put_fields(text: &mut [u8], at: usize, place: usize, first: u32, second: u32)
 }
 
 fn put_bytes(text: &mut [u8], at: usize, bytes: &[u32]) -> usize
-    requires { ⌜ at ≤ length (now text) ⌝ }
     ensures { λ r. ⌜ Put (now (text .entry)) at (bytesColumn (now (bytes .entry))) r (now (text .exit)) ⌝ }
 {
     let mut end = at;
@@ -85,7 +85,6 @@ fn put_bytes(text: &mut [u8], at: usize, bytes: &[u32]) -> usize
 
 // How the frame ended, the mark, and the end of the line.
 fn put_end(text: &mut [u8], at: usize, first: u32) -> usize
-    requires { ⌜ at ≤ length (now text) ⌝ }
     ensures { λ r. ⌜
         Put (now (text .entry)) at (endingColumn (first % 0x10) ++ markColumn (frameBy first 0 [] .again)) r
         (now (text .exit)) ⌝ }
@@ -105,7 +104,7 @@ fn put_end(text: &mut [u8], at: usize, first: u32) -> usize
 
 // What is written for the word at a place: a line where it is a start.
 fn put_line(text: &mut [u8], at: usize, place: usize, slot: u32, words: &[u32]) -> usize
-    requires { ⌜ (at ≤ length (now text)) × (place < 16384) ⌝ }
+    requires { ⌜ place < 16384 ⌝ }
     ensures { λ r. ⌜
         Put (now (text .entry)) at (slotLine place slot (now (words .entry))) r (now (text .exit)) ⌝ }
 {
@@ -132,7 +131,7 @@ fn used(slot: u32, words: &[u32]) -> usize
 }
 
 pub(crate) fn put_lines(text: &mut [u8], at: usize, slots: &[u32], records: &[u32]) -> usize
-    requires { ⌜ (at ≤ length (now text)) × (length (now slots) ≤ 16384) ⌝ }
+    requires { ⌜ length (now slots) ≤ 16384 ⌝ }
     ensures { λ r. ⌜
         Put (now (text .entry)) at (linesIn 0 (now (slots .entry)) (now (records .entry))) r (now (text .exit)) ⌝ }
 {

@@ -13,7 +13,6 @@ ghost use Rattle.iebus_dump.specs.Dump.{dumpBytes, dumpOf, wholeOf};
 
 mod columns;
 mod lines;
-mod put;
 mod whole;
 
 use crate::whole::last_number;

@@ -2,10 +2,11 @@
 ghost use mathlib.Core.Path.{_≡_};
 ghost use Prim.Native.Nat.{_<_, _≤_};
 ghost use lib.ListN.{length};
-ghost use Rattle.iebus_dump.specs.Writing.{Put, lastBy, shownBy, textBy};
+ghost use Rattle.pieces.specs.Pieces.{Put};
+ghost use Rattle.iebus_dump.specs.Writing.{lastBy, shownBy, textBy};
 use crate::lines::put_lines;
-use crate::put::put;
 use logs::LogRead;
+use pieces::put;
 use words::WORD_BYTES;
 
 // The bytes of the words that are read.

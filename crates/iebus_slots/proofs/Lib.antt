@@ -1,3 +1,2 @@
--- What the proofs share: the digits of a number that have been read, and the slots of an input.
-pub mod Digits
+-- What the proofs share: the slots of an input.
 pub mod Slots

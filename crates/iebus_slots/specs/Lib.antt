@@ -1,4 +1,3 @@
--- The widths that the arguments say, and what is made of an input; then arguments that are computed.
+-- The widths that the arguments say, and what is made of an input.
 pub mod Arguments
 pub mod Output
-pub mod Cases

@@ -19,7 +19,6 @@ mod output;
 use crate::arguments::Asked;
 use crate::arguments::range;
 use crate::arguments::setting;
-use crate::arguments::width;
 use crate::output::Message;
 use crate::output::given;
 use crate::output::told;
@@ -27,6 +26,7 @@ use capture::slots_of_pulses;
 use libc::STDERR_FILENO;
 use libc::STDIN_FILENO;
 use libc::STDOUT_FILENO;
+use pieces::number;
 use pulses::Setting;
 use words::WORD_BYTES;
 use words::put_bytes;
@@ -63,9 +63,9 @@ fn setting_asked(
         r ≡ askedOf (now («zero_least» .entry)) (now («zero_most» .entry)) (now («one_least» .entry))
         (now («one_most» .entry)) (now («start_least» .entry)) (now («start_most» .entry)) ⌝ }
 {
-    let zero = range(width(zero_least), width(zero_most));
-    let one = range(width(one_least), width(one_most));
-    let start = range(width(start_least), width(start_most));
+    let zero = range(number(zero_least), number(zero_most));
+    let one = range(number(one_least), number(one_most));
+    let start = range(number(start_least), number(start_most));
     setting(zero, one, start)
 }
 

@@ -1,15 +1,9 @@
 // What a conversion is said to come to: how many slots there are, and what is said besides.
 ghost use mathlib.Core.Path.{_≡_};
-ghost use mathlib.Core.List.{_++_};
-ghost use Prim.Native.Nat.{_*_, _≤_};
-ghost use lib.ListN.{drop, length};
-ghost use Rattle.iebus_slots.specs.Output.{givenOf, measuredOf, messageOf, mostPulses, outputOf, slotsFor};
-use capture::slots_of_pulses;
+ghost use Prim.Native.Nat.{_≤_};
+ghost use Rattle.iebus_slots.specs.Output.{givenOf, messageOf};
 use pulses::Measured;
-use pulses::Setting;
 use words::WORD_BYTES;
-use words::put_bytes;
-use words::put_words;
 
 pub(crate) enum Message {
     Nothing,

@@ -2,20 +2,22 @@
 use mathlib.Core.Bool.{false, _||_}
 use mathlib.Core.Logic.{⊎-elim}
 use mathlib.Core.List.{List, [], _∷_, _++_}
-use mathlib.Core.Path.{_≡_, refl, sym}
+use mathlib.Core.Path.{_≡_, refl, sym, ap, _∙_}
 use Prim.Native.Nat.{ℕ, _+_, _-_, _<_, _≤_}
 use native.Mathlib.Numerals.{add-one}
 use native.Mathlib.Omega.{arith}
 use borrow.Author.Tests.{le-ltb, lt-ltb}
 use lib.Dec.{ltb}
-use lib.ListN.{drop, getD, length, set}
+use lib.ListN.{drop, drop-of-length-le, getD, length, set}
 use Rattle.line.proofs.Either.{below-or-not}
 use Rattle.line.proofs.Placed.{Placed, all-placed, none-placed, one-placed, placed-length}
+use Rattle.line.proofs.Places.{cut}
 use Rattle.line.specs.Numbers.{slotIdle}
 use Rattle.line.specs.Places.{placed}
 use Rattle.logs.specs.Frames.{strayIn}
 use Rattle.loads.proofs.Peaks.{Most, most-kept, most-new, most-none}
-use Rattle.loads.specs.Figures.{busy, figureAt, figuresOf}
+use Rattle.loads.proofs.Windows.{busy-le, busy-more, none-idle}
+use Rattle.loads.specs.Figures.{busy, busyOf, figureAt, figuresOf}
 use Rattle.meter.specs.declared.Most as declared
 use Rattle.meter.specs.Counting.{countAt, higherOf, leavingAt}
 use Rattle.meter.proofs.Counting.{count-most, count-none, count-step}
@@ -29,6 +31,28 @@ none-stray = refl
 pub one-stray : (w : ℕ) (ws : List ℕ) → strayIn (w ∷ ws) ≡ (ltb slotIdle w || strayIn ws)
 unfolding strayIn
 one-stray w ws = refl
+
+-- ---- busy_of: i slots have been counted
+
+pub record Counted (slots : List ℕ) (count i : ℕ) : Type 0 where
+  pub within : i ≤ length slots
+  pub few : count ≤ i
+  pub rest : busyOf slots ≡ count + busyOf (drop i slots)
+
+pub counted-none : (slots : List ℕ) → Counted slots 0 0
+counted-none slots = record { within = omega arith; few = omega arith; rest = omega arith }
+
+pub counted-one : {slots : List ℕ} {count i come : ℕ} → Counted slots count i → i < length slots
+    → come ≡ busy (getD slots i 0) → Counted slots (count + come) (i + 1)
+counted-one {slots} {count} {i} {come} k h is =
+    let one = busy-le (getD slots i 0) in
+    let more = ap busyOf (cut slots i h) ∙ busy-more (getD slots i 0) (drop (i + 1) slots) in
+    record { within = omega arith; few = omega (arith, k .few, is, one); rest = omega (arith, k .rest, more, is) }
+
+pub counted-all : {slots : List ℕ} {count i : ℕ} → Counted slots count i → length slots ≤ i → count ≡ busyOf slots
+counted-all {slots} {count} {i} k end =
+    let none = ap busyOf (drop-of-length-le slots end) ∙ none-idle in
+    omega (arith, k .rest, none)
 
 -- ---- put_figures: i slots have their figures
 

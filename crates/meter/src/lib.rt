@@ -1,12 +1,12 @@
 // The figures of a log: after every slot, how many of the latest are not idle. The work for each slot is the same
-// whatever the window is: the slot that comes is counted, and the one that leaves the window is counted no more. The
-// public function has no `requires`, and nothing is assumed.
+// whatever the window is: the slot that comes is counted, and the one that leaves the window is counted no more. No
+// public function has a `requires`, and nothing is assumed.
 ghost use mathlib.Core.Path.{_≡_};
 ghost use mathlib.Core.List.{_++_};
 ghost use Prim.Native.Nat.{_<_, _≤_};
 ghost use lib.ListN.{drop, length};
 ghost use Rattle.logs.specs.Frames.{strayIn};
-ghost use Rattle.loads.specs.Figures.{badWindow, busy, figuresOf, largestOf, placeOf};
+ghost use Rattle.loads.specs.Figures.{badWindow, busy, busyOf, figuresOf, largestOf, placeOf};
 ghost use Rattle.loads.specs.Load.{Loads};
 ghost use Rattle.loads.specs.Relied.{Relied};
 ghost use Rattle.meter.specs.Counting.{higherOf, leavingAt};
@@ -46,6 +46,19 @@ fn busy(slot: u32) -> u32
         return 0;
     }
     1
+}
+
+// How many of some slots are not idle.
+pub fn busy_of(slots: &[u32]) -> usize
+    ensures { λ r. ⌜ r ≡ busyOf (now (slots .entry)) ⌝ }
+{
+    let mut count: usize = 0;
+    let mut i: usize = 0;
+    while i < slots.len() {
+        count += busy(slots[i]) as usize;
+        i += 1;
+    }
+    count
 }
 
 // What leaves the window with the slot at a place: the slot that came w before it.

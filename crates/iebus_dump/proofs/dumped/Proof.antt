@@ -2,15 +2,16 @@ use Prim.Native.Nat.{ℕ, zero}
 use native.Mathlib.Omega.{arith}
 use mathlib.Core.Path.{_≡_, _∙_}
 use lib.ListN.{length, length-replicate, replicate}
-use Rattle.iebus_dump.specs.Dump.{mostWords}
+use Rattle.iebus_dump.specs.Dump.{dumpOf, mostWords}
 use Rattle.iebus_dump.proofs.Fits.{fits}
-use Rattle.iebus_dump.proofs.Pieces.{named}
-use Rattle.iebus_dump.proofs.Texts.{dumped, slots-made, text-made, text-right}
+use Rattle.pieces.proofs.Pieces.{front, named}
+use Rattle.iebus_dump.proofs.Texts.{slots-made, text-made, text-right}
 use borrow.Author.Needs.{needs}
 use Rattle.iebus_dump.proofs.dumped.Statement.{statement}
 use Rattle.iebus_dump.proofs.dumped.Tie as tie
 
 pub dumped-spec : {M : Type 1} → statement M
+unfolding dumpOf
 dumped-spec =
     tie.close
     (tie.spec
@@ -45,7 +46,5 @@ dumped-spec =
     let right =
     text-right (read .read-log .ensures .1) input (rw is at (read .read-log .ensures .0)) (omega (arith, places))
     in
-    let dump =
-    dumped {long = entry .args .long} {input = input} (named (c .before .before .put-dump .ensures) (made ∙ right))
-    in
+    let dump = front (named (c .before .before .put-dump .ensures) (made ∙ right)) in
     (dump .count, (dump .written, (dump .within, fits (read .read-log .ensures .1) input)))))

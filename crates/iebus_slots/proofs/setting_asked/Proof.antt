@@ -22,12 +22,12 @@ setting-asked-spec =
     simp (
       c .setting .ensures,
       start .range3 .ensures,
-      start .before .width6 .ensures,
-      start .before .before .width5 .ensures,
+      start .before .number6 .ensures .0,
+      start .before .before .number5 .ensures .0,
       one .range2 .ensures,
-      one .before .width4 .ensures,
-      one .before .before .width3 .ensures,
+      one .before .number4 .ensures .0,
+      one .before .before .number3 .ensures .0,
       zero .range .ensures,
-      zero .before .width2 .ensures,
-      zero .before .before .width .ensures,
+      zero .before .number2 .ensures .0,
+      zero .before .before .number .ensures .0,
     )))

@@ -5,8 +5,8 @@ use borrow.Author.Needs.{needs}
 use lib.ListN.{length, take}
 use lib.Seq.{take-all}
 use Rattle.iebus_dump.specs.Line.{bytesColumn}
-use Rattle.iebus_dump.specs.Writing.{Put}
-use Rattle.iebus_dump.proofs.Pieces.{named, nothing, then}
+use Rattle.pieces.specs.Pieces.{Put}
+use Rattle.pieces.proofs.Pieces.{named, nothing, then}
 use Rattle.iebus_dump.proofs.Written.{bytes-more, no-bytes}
 use Rattle.iebus_dump.proofs.lines.put_bytes.Statement.{statement}
 use Rattle.iebus_dump.proofs.lines.put_bytes.Tie as tie
@@ -25,7 +25,7 @@ put-bytes-spec =
     Inv-loop
     μ-loop
     (λ c. let entry = c .before .before in
-    (search needs, refl, named (nothing (entry .args .text .now) (entry .pre)) (sym no-bytes)))
+    (search needs, refl, named (nothing (entry .args .text .now) (entry .args .at)) (sym no-bytes)))
     (λ c. search needs)
     (λ c. search needs)
     (λ c κs. search needs)
@@ -40,7 +40,7 @@ put-bytes-spec =
     let more : now .loop .i < length (entry .args .bytes .now) = omega arith in (
       search needs,
       search needs,
-      named (then (entry .pre) (now .loop .inv .2) (c .before .before .put .ensures))
+      named (then (now .loop .inv .2) (c .before .before .put .ensures))
           (rw (digits .digit2 .ensures, digits .before .digit .ensures)
           (bytes-more (entry .args .bytes .now) (now .loop .i) more)),
     ))

@@ -3,7 +3,7 @@ use Prim.Native.Nat.{ℕ, _-_, _/_, _%_}
 use native.Mathlib.Omega.{arith}
 use lib.Dec.{eqb}
 use lib.ListN.{take, drop}
-use Rattle.iebus_dump.proofs.Pieces.{named, then}
+use Rattle.pieces.proofs.Pieces.{named, then}
 use Rattle.iebus_dump.proofs.Tables.{ending-at, mark-by, markTable, places-rise}
 use borrow.Author.Needs.{needs}
 use Rattle.iebus_dump.proofs.lines.put_end.Statement.{statement}
@@ -37,5 +37,5 @@ put-end-spec =
     let mark =
     ap (λ (n : ℕ). take (8 - n) (drop n markTable)) again ∙ mark-by (eqb (entry .args .first / 0x10 % 2) 1)
     in
-    then (entry .pre) (named (first .put .ensures) (ending-at (entry .args .first % 16) (omega arith)))
+    then (named (first .put .ensures) (ending-at (entry .args .first % 16) (omega arith)))
     (named (c .before .before .put2 .ensures) mark)))

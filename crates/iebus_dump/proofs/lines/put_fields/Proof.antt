@@ -2,7 +2,7 @@ use mathlib.Core.Path.{_≡_, _∙_, ap}
 use Prim.Native.Nat.{ℕ, _+_, _-_, _/_, _%_}
 use native.Mathlib.Omega.{arith}
 use lib.ListN.{take, drop}
-use Rattle.iebus_dump.proofs.Pieces.{named, then}
+use Rattle.pieces.proofs.Pieces.{named, then}
 use Rattle.iebus_dump.proofs.Digits.{fields-made}
 use Rattle.iebus_dump.proofs.Tables.{name-by, nameTable}
 use Rattle.iebus_dump.specs.Line.{fieldsOf}
@@ -40,7 +40,6 @@ put-fields-spec =
     let first = second .before .before .before .before .before .before in
     let named-at = first .before .before .before .before in
     let entry = named-at .before .before .before .before in
-    let within = entry .pre .0 in
     let given : ℕ = named-at .before .given .result in
     let control : ℕ = entry .args .first / 0x40 % 0x10 in
     let wide : named-at .name-place .result + 13 - named-at .name-place .result ≡ 13 = omega arith in
@@ -50,7 +49,7 @@ put-fields-spec =
     ∙ name-by given control (omega arith)
     in
     named
-    (then within (then within (then within (first .put .ensures) (second .put2 .ensures)) (third .put3 .ensures))
+    (then (then (then (first .put .ensures) (second .put2 .ensures)) (third .put3 .ensures))
     (c .before .before .put4 .ensures))
     (rw (
       first .before .before .route .ensures,

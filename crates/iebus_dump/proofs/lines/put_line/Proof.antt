@@ -1,5 +1,5 @@
 use borrow.Author.Tests.{ne-eqb}
-use Rattle.iebus_dump.proofs.Pieces.{named, nothing, then}
+use Rattle.pieces.proofs.Pieces.{named, nothing, then}
 use Rattle.iebus_dump.proofs.Written.{line-made, part-cut}
 use Rattle.iebus_dump.specs.Writing.{slotLine}
 use borrow.Author.Needs.{needs}
@@ -12,7 +12,7 @@ put-line-spec =
     tie.close
     (tie.spec
     (λ c. let entry = c .before .before .before in
-    named (nothing (entry .args .text .now) (entry .pre .0)) (simp (ne-eqb _ _ (c .if1 .taken))))
+    named (nothing (entry .args .text .now) (entry .args .at)) (simp (ne-eqb _ _ (c .if1 .taken))))
     (λ c κs. search needs)
     (λ c κs. search needs)
     (λ c κs. search needs)
@@ -33,10 +33,9 @@ put-line-spec =
     let fields = counted .before .before .before .before .before .before in
     let tested = fields .before .before .before .before in
     let entry = tested .before .before .before in
-    let within = entry .pre .0 in
     let words = entry .args .words .now in
     named
-    (then within (then within (fields .put-fields .ensures) (bytes .put-bytes .ensures))
+    (then (then (fields .put-fields .ensures) (bytes .put-bytes .ensures))
     (c .before .before .put-end .ensures))
     (line-made (entry .args .place) (entry .args .slot) words (tested .if1 .left)
     (fields .before .before .before .word .ensures) (fields .before .word2 .ensures)

@@ -24,14 +24,14 @@ put-lines-spec =
     Inv-loop
     μ-loop
     (λ c. let entry = c .before .before .before in
-    (search needs, search needs, refl, begun _ _ (entry .args .text .now) (entry .pre .0)))
+    (search needs, search needs, refl, begun _ _ (entry .args .text .now) (entry .args .at)))
     (λ c. search needs)
     (λ c. search needs)
     (λ c. search needs)
     (λ c. search needs)
     (λ c. search needs)
     (λ c. search needs)
-    (λ c κs. (c .before .before .before .before .loop .inv .3 .put .within, search needs))
+    (λ c κs. search needs)
     (λ c κs. search needs)
     (λ c. search needs)
     (λ c κs. search needs)
@@ -45,7 +45,7 @@ put-lines-spec =
       search needs,
       search needs,
       search needs,
-      one-more (entry .pre .0) (now .loop .inv .3) more (from-place records (now .loop .next)) (line .put-line .ensures)
+      one-more (now .loop .inv .3) more (from-place records (now .loop .next)) (line .put-line .ensures)
           (c .least .ensures
           ∙ ap (λ (n : ℕ). min (now .loop .next + n) (length records)) (c .before .used .ensures .0)),
     ))

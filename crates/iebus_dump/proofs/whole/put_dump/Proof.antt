@@ -1,7 +1,4 @@
-use Prim.Native.Nat.{_≤_}
-use native.Mathlib.Omega.{arith}
-use lib.ListN.{length}
-use Rattle.iebus_dump.proofs.Pieces.{named, then}
+use Rattle.pieces.proofs.Pieces.{named, then}
 use Rattle.iebus_dump.proofs.Tables.{last-at, lasts-rise}
 use Rattle.iebus_dump.specs.Writing.{textBy}
 use borrow.Author.Needs.{needs}
@@ -33,6 +30,5 @@ put-dump-spec =
     (λ c. let lines = c .before .before .before .before .before .before .before in
     let first = lines .before .before .before .before in
     let entry = first .before .before .before .before .before .before .before in
-    let none : 0 ≤ length (entry .args .text .now) = omega arith in
-    then none (then none (first .put .ensures) (lines .put-lines .ensures))
+    then (then (first .put .ensures) (lines .put-lines .ensures))
     (named (c .before .before .put2 .ensures) (last-at (entry .args .last) (entry .pre .0)))))

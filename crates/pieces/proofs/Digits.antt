@@ -5,37 +5,37 @@ use Prim.Native.Nat.{ℕ, _+_, _<_, _≤_}
 use native.Mathlib.Omega.{arith}
 use lib.ListN.{drop, drop-of-length-le, getD, length}
 use Rattle.line.proofs.Places.{cut}
-use Rattle.iebus_slots.specs.Arguments.{grown, noWidth, widthFrom, widthOf}
+use Rattle.pieces.specs.Decimal.{grown, noNumber, numberFrom, numberOf}
 
 -- i bytes of a text have been read, and n is what they say
 pub record Read (text : List ℕ) (n i : ℕ) : Type 0 where
   pub within : i ≤ length text
-  pub small : n ≤ noWidth
-  pub rest : widthFrom 0 text ≡ widthFrom n (drop i text)
+  pub small : n ≤ noNumber
+  pub rest : numberFrom 0 text ≡ numberFrom n (drop i text)
 
 pub nothing-read : (text : List ℕ) → Read text 0 0
 nothing-read text = record { within = omega arith; small = omega arith; rest = refl }
 
 pub one-read : {text : List ℕ} {n i next : ℕ} → Read text n i → i < length text → next ≡ grown n (getD text i 0)
-    → next ≤ noWidth → Read text next (i + 1)
-unfolding widthFrom
+    → next ≤ noNumber → Read text next (i + 1)
+unfolding numberFrom
 one-read {text} {n} {i} {next} r more is no-more = record {
   within = omega arith;
   small = no-more;
-  rest = r .rest ∙ ap (widthFrom n) (cut text i more) ∙ ap (λ (k : ℕ). widthFrom k (drop (i + 1) text)) (sym is);
+  rest = r .rest ∙ ap (numberFrom n) (cut text i more) ∙ ap (λ (k : ℕ). numberFrom k (drop (i + 1) text)) (sym is);
 }
 
-pub no-digit : (text : List ℕ) → length text ≡ 0 → noWidth ≡ widthOf text
-unfolding widthOf
+pub no-digit : (text : List ℕ) → length text ≡ 0 → noNumber ≡ numberOf text
+unfolding numberOf
 no-digit [] e = refl
 no-digit (b ∷ bs) e = absurd (omega (arith, e))
 
-some-digit : (text : List ℕ) → 0 < length text → widthFrom 0 text ≡ widthOf text
-unfolding widthOf
+some-digit : (text : List ℕ) → 0 < length text → numberFrom 0 text ≡ numberOf text
+unfolding numberOf
 some-digit [] e = absurd (omega (arith, e))
 some-digit (b ∷ bs) e = refl
 
-pub all-read : {text : List ℕ} {n i : ℕ} → Read text n i → length text ≤ i → (length text ≡ 0 → ⊥) → n ≡ widthOf text
-unfolding widthFrom
+pub all-read : {text : List ℕ} {n i : ℕ} → Read text n i → length text ≤ i → (length text ≡ 0 → ⊥) → n ≡ numberOf text
+unfolding numberFrom
 all-read {text} {n} {i} r end some =
-    sym (ap (widthFrom n) (drop-of-length-le text end)) ∙ sym (r .rest) ∙ some-digit text (omega (arith, some))
+    sym (ap (numberFrom n) (drop-of-length-le text end)) ∙ sym (r .rest) ∙ some-digit text (omega (arith, some))

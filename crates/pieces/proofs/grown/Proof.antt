@@ -1,8 +1,8 @@
 use borrow.Author.Needs.{needs}
 use borrow.Author.Tests.{le-leb, le-ltb, lt-leb, lt-ltb}
-use Rattle.iebus_slots.specs.Arguments.{grown}
-use Rattle.iebus_slots.proofs.arguments.grown.Statement.{statement}
-use Rattle.iebus_slots.proofs.arguments.grown.Tie as tie
+use Rattle.pieces.specs.Decimal.{grown}
+use Rattle.pieces.proofs.grown.Statement.{statement}
+use Rattle.pieces.proofs.grown.Tie as tie
 
 pub grown-spec : {M : Type 1} → statement M
 unfolding grown

@@ -4,9 +4,9 @@ use mathlib.Core.Path.{_≡_, _∙_, refl}
 use borrow.Author.Needs.{needs}
 use lib.ListN.{length, length-set}
 use lib.Seq.{paste, paste-zero}
-use Rattle.iebus_dump.proofs.Pieces.{done, paste-more}
-use Rattle.iebus_dump.proofs.put.put.Statement.{statement}
-use Rattle.iebus_dump.proofs.put.put.Tie as tie
+use Rattle.pieces.proofs.Pieces.{done, paste-more}
+use Rattle.pieces.proofs.put.Statement.{statement}
+use Rattle.pieces.proofs.put.Tie as tie
 
 abbrev Inv-loop : tie.InvT-loop
 Inv-loop text₀ at piece count i₀ text i =
@@ -21,9 +21,9 @@ put-spec =
     (tie.spec
     Inv-loop
     μ-loop
-    (λ c. search needs)
     (λ c κs. search needs)
-    (λ c. let entry = c .before .before .before .args in
+    (λ c κs. search needs)
+    (λ c. let entry = c .before .before .before .before .args in
     (search needs, paste-zero (entry .text .now) (entry .at) (entry .piece .now), refl))
     (λ c. search needs)
     (λ c. search needs)
@@ -31,7 +31,7 @@ put-spec =
     (λ c. search needs)
     (λ c. search needs)
     (λ c. let now = c .before .before in
-    let entry = now .before .before .before .before .args in (
+    let entry = now .before .before .before .before .before .args in (
       search needs,
       paste-more (entry .text .now) (entry .piece .now) (now .loop .text) (entry .at) (now .loop .i) (now .loop .inv .1)
           (omega arith) (omega arith),
@@ -41,4 +41,4 @@ put-spec =
     (λ c. search needs)
     (λ c. let counted = c .before .before in
     let all : c .before .loop .i ≡ counted .least .result = omega arith in
-    done (counted .before .before .before .pre) (counted .least .ensures) (rw all at (c .before .loop .inv .1))))
+    done (counted .least .ensures ∙ rw (counted .before .room .ensures)) (rw all at (c .before .loop .inv .1))))

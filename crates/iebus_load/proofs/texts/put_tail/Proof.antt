@@ -1,0 +1,15 @@
+use borrow.Author.Needs.{needs}
+use Rattle.iebus_load.specs.Texts.{tailForm}
+use Rattle.iebus_load.proofs.texts.put_tail.Statement.{statement}
+use Rattle.iebus_load.proofs.texts.put_tail.Tie as tie
+
+pub put-tail-spec : {M : Type 1} → statement M
+unfolding tailForm
+put-tail-spec =
+    tie.close
+    (tie.spec
+    (λ c. search needs)
+    (λ c. search needs)
+    (λ c κs. search needs)
+    (λ c. search needs)
+    (λ c. c .before .before .put-form .ensures))

@@ -1,0 +1,132 @@
+// The program `iebus_load`: it reads the slot words of a line from standard input, 32 bits each, little-endian, and
+// tells how full the line was: after every slot, how many of the latest slots are not idle. The first argument is how
+// many are looked at, 1 to 4,096. It prints a summary or, where the second argument is `svg`, writes the figures as a
+// plot. What it writes is made by `made`, whose contract says all of it.
+//
+// Only the first 65,536 slots are read. What there is to say besides goes to standard error: `refused 25` or `refused
+// 16`, or `empty`, and then nothing is written; `more` where any byte follows the last slot that is read, `short` for 1
+// to 3 bytes left over; or how to call the program. The status is 0 whatever the log is.
+ghost use mathlib.Core.Path.{_≡_};
+ghost use mathlib.Core.List.{_++_};
+ghost use Prim.Native.Nat.{_≤_};
+ghost use lib.ListN.{drop, length};
+ghost use Rattle.iebus_load.specs.Output.{loadedOf, messageOf, outputOf, textBytes, wholeOf};
+
+mod forms;
+mod output;
+mod texts;
+
+use crate::output::Message;
+use crate::output::Wanted;
+use crate::output::asked;
+use crate::output::told;
+use crate::texts::put_loaded;
+use libc::STDERR_FILENO;
+use libc::STDIN_FILENO;
+use libc::STDOUT_FILENO;
+use meter::load;
+use pieces::NO_NUMBER;
+use pieces::number;
+use words::put_words;
+
+// At most so many slots are read.
+const MOST_SLOTS: usize = 65536;
+
+// One byte more than is read, so that a byte that follows is seen.
+const INPUT_BYTES: usize = 262145;
+
+// Room for every plot: what stands before the curve, nine bytes for each slot, what stands behind it.
+const TEXT_BYTES: usize = 591119;
+
+// A number has at most five digits; a longer argument is none.
+const NUMBER_BYTES: usize = 5;
+
+// How long the text is, and what is said.
+struct Outcome {
+    count: usize,
+    message: Message,
+}
+
+// The summary or the plot goes to the front of the text, as far as there is room, and the rest of the text stays as it
+// was. TEXT_BYTES are room for all of it.
+fn made(plot: bool, w: u32, input: &[u8], text: &mut [u8]) -> Outcome
+    ensures count { λ r. ⌜ r .count ≡ length (outputOf plot w (now (input .entry)) (length (now (text .entry)))) ⌝ }
+    ensures written { λ r. ⌜
+        now (text .exit) ≡ outputOf plot w (now (input .entry)) (length (now (text .entry)))
+        ++ drop (r .count) (now (text .entry)) ⌝ }
+    ensures message { λ r. ⌜
+        r .message ≡ messageOf (loadedOf w (now (input .entry))) (length (now (input .entry))) ⌝ }
+    ensures within { λ r. ⌜ r .count ≤ length (now (text .entry)) ⌝ }
+    ensures fits { λ _. ⌜ length (wholeOf plot w (now (input .entry))) ≤ textBytes ⌝ }
+{
+    let mut slots = [0u32; MOST_SLOTS];
+    let mut figures = [0u32; MOST_SLOTS];
+    let count = put_words(input, &mut slots);
+    let loaded = load(w, &slots[0..count], &mut figures);
+    let message = told(loaded, input.len());
+    let end = put_loaded(plot, text, w, loaded, &slots[0..count], &figures[0..count]);
+    Outcome {
+        count: end,
+        message,
+    }
+}
+
+fn say(message: Message) {
+    match message {
+        Message::Nothing => {}
+        Message::Short => {
+            io::write_all(STDERR_FILENO, b"short\n");
+        }
+        Message::More => {
+            io::write_all(STDERR_FILENO, b"more\n");
+        }
+        Message::Empty => {
+            io::write_all(STDERR_FILENO, b"empty\n");
+        }
+        Message::BadWindow => {
+            io::write_all(STDERR_FILENO, b"refused 25\n");
+        }
+        Message::NoSlot => {
+            io::write_all(STDERR_FILENO, b"refused 16\n");
+        }
+    }
+}
+
+// There is room for all of it. Where it cannot be written, nothing is left to do.
+fn print(plot: bool, w: u32, input: &[u8], text: &mut [u8])
+    requires { ⌜ textBytes ≤ length (now text) ⌝ }
+{
+    let outcome = made(plot, w, input, text);
+    let count = outcome.count;
+    let message = outcome.message;
+    io::write_all(STDOUT_FILENO, &text[0..count]);
+    say(message);
+}
+
+fn show(plot: bool, w: u32) {
+    let mut input = [0u8; INPUT_BYTES];
+    let mut text = [0u8; TEXT_BYTES];
+    let count = io::read_full(STDIN_FILENO, &mut input);
+    print(plot, w, &input[..count], &mut text);
+}
+
+fn explain() {
+    io::write_all(STDERR_FILENO, b"usage: iebus_load WINDOW [svg] <SLOTS\n");
+}
+
+fn main() {
+    let mut window = [0u8; NUMBER_BYTES];
+    let mut second = [0u8; 3];
+    let digits = os::arg(1, &mut window);
+    let letters = os::arg(2, &mut second);
+    let w = number(&window[..digits]);
+    if NO_NUMBER <= w {
+        explain();
+        return;
+    }
+    match asked(os::arg_count(), &second[..letters]) {
+        Wanted::Summary => show(false, w),
+        Wanted::Plot => show(true, w),
+        Wanted::Neither => explain(),
+    }
+}
