@@ -90,17 +90,6 @@ static void random_logs(void)
 
 static uint32_t long_slots[LONG_SLOTS];
 
-static void draw_long_log(void)
-{
-    struct random r = random_seeded(SEED);
-    for (size_t len = 0; len < LONG_SLOTS;) {
-        size_t left = LONG_SLOTS - len, room = 1 + random_below(&r, 20000);
-        struct log stretch = {.slots = long_slots + len, .room = room < left ? room : left};
-        draw_stretch(&r, &stretch);
-        len += stretch.len;
-    }
-}
-
 static bool long_log_alike(uint32_t w)
 {
     static uint32_t proved[LONG_SLOTS], model[LONG_SLOTS];
@@ -118,7 +107,8 @@ static void long_log(void)
     static uint32_t figures[LONG_SLOTS];
     uint32_t largest = UNTOUCHED_LARGEST;
     uint64_t place = UNTOUCHED_PLACE;
-    draw_long_log();
+    struct random r = random_seeded(SEED);
+    draw_stretches(&r, &(struct log){.slots = long_slots, .room = LONG_SLOTS});
     check("2,000,000 slots in a window of 1", long_log_alike(1));
     check("2,000,000 slots in a window of 64", long_log_alike(64));
     check("2,000,000 slots in a window of 4,096", long_log_alike(4096));
@@ -127,6 +117,12 @@ static void long_log(void)
     check("the last of them no slot word is number 16, and nothing is written",
           iebus_load(4096, long_slots, LONG_SLOTS, figures, LONG_SLOTS, &largest, &place) == REFUSED_NO_SLOT
           && largest == UNTOUCHED_LARGEST && place == UNTOUCHED_PLACE && words_untouched(figures, 0, LONG_SLOTS));
+    for (size_t i = 0; i < LONG_SLOTS - 1; i++)
+        long_slots[i] = SLOT_IDLE;
+    long_slots[LONG_SLOTS - 1] = SLOT_START;
+    check("the last of 2,000,000 slots alone not idle: the largest is 1 at its place",
+          iebus_load(4096, long_slots, LONG_SLOTS, figures, LONG_SLOTS, &largest, &place) == TAKEN && largest == 1
+          && place == LONG_SLOTS - 1 && figures[LONG_SLOTS - 1] == 1 && figures[LONG_SLOTS - 2] == 0);
 }
 
 int main(void)

@@ -172,14 +172,10 @@ static int draw(unsigned long seed, const char *path)
 static int draw_long(void)
 {
     static uint32_t slots[MOST_WORDS + WORDS_BEHIND];
+    struct log log = {.slots = slots, .room = MOST_WORDS + WORDS_BEHIND};
     struct random r = random_seeded(1);
-    for (size_t len = 0; len < MOST_WORDS + WORDS_BEHIND;) {
-        size_t left = MOST_WORDS + WORDS_BEHIND - len, room = 1 + random_below(&r, MOST_LOAD_SLOTS);
-        struct log stretch = {.slots = slots + len, .room = room < left ? room : left};
-        draw_stretch(&r, &stretch);
-        len += stretch.len;
-    }
-    put_words(stdout, slots, MOST_WORDS + WORDS_BEHIND);
+    draw_stretches(&r, &log);
+    put_words(stdout, log.slots, log.len);
     return ferror(stdout);
 }
 

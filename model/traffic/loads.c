@@ -98,6 +98,16 @@ void draw_stretch(struct random *r, struct log *log)
     }
 }
 
+void draw_stretches(struct random *r, struct log *log)
+{
+    for (log->len = 0; log->len < log->room;) {
+        size_t left = log->room - log->len, room = 1 + random_below(r, MOST_LOAD_SLOTS);
+        struct log stretch = {.slots = log->slots + log->len, .room = room < left ? room : left};
+        draw_stretch(r, &stretch);
+        log->len += stretch.len;
+    }
+}
+
 void draw_windowed_log(struct random *r, struct windowed_log *log)
 {
     struct log slots = {.slots = log->slots, .room = draw_len(r)};

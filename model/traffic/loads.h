@@ -18,6 +18,9 @@ struct windowed_log {
 /* Fills the room with frames and idle between them, with runs, with noise, or with slots all idle or all not. */
 void draw_stretch(struct random *r, struct log *log);
 
+/* Fills the room with such stretches, each up to MOST_LOAD_SLOTS long. */
+void draw_stretches(struct random *r, struct log *log);
+
 /* Such a stretch in room for MOST_LOAD_SLOTS slots, and a window that is mostly in range; some logs hold words over 3,
    and some lists of figures are too short. */
 void draw_windowed_log(struct random *r, struct windowed_log *log);
