@@ -1,23 +1,11 @@
-/* Logs whose records were worked out by hand from tickets 1 and 11, for every reader that is tried.
-
-   A log is written as text, with blanks or without:
-
-       S _ 0 1    a start, an idle, a level
-       m525       a master address with its P
-       s123+      a slave address with its P and A: + is ACK, - is NAK
-       cF+ l02+ d12+   a control, a length, an attempt, likewise
-       d12!+      with the wrong P
-       s123+/3    its first three slots alone
-       d12+*16    sixteen of them
-       #10000003  any word */
+/* Logs whose records were worked out by hand from tickets 1 and 11, for every reader that is tried, in the notation of
+   log_text.h. */
 #ifndef MODEL_KNOWN_LOGS_H
 #define MODEL_KNOWN_LOGS_H
 
-#include <stdlib.h>
-
 #include "lent.h"
+#include "log_text.h"
 #include "records.h"
-#include "traffic/fields.h"
 
 enum { MOST_KNOWN_WORDS = 40 };
 
@@ -318,48 +306,6 @@ static const struct refused_log refused_logs[] = {
 };
 
 enum { REFUSED_LOGS = sizeof refused_logs / sizeof *refused_logs };
-
-/* Writes a field from its letter on and gives where the text goes on. */
-static inline const char *put_field_of(struct log *log, const char *text)
-{
-    unsigned bits = *text == 'c' ? CONTROL_BITS : *text == 'm' || *text == 's' ? ADDRESS_BITS : BYTE_BITS;
-    enum a_slot a = *text == 'm' ? A_NONE : A_ACK;
-    char *rest;
-    unsigned value = (unsigned)strtoul(text + 1, &rest, 16);
-    bool bad_parity = *rest == '!';
-    rest += bad_parity;
-    if (a != A_NONE)
-        a = *rest++ == '-' ? A_NAK : A_ACK;
-    uint32_t levels[MOST_FIELD_LEVELS];
-    size_t len = put_field(levels, value, bits, bad_parity, a);
-    unsigned long times = 1;
-    if (*rest == '/')
-        len = strtoul(rest + 1, &rest, 10);
-    else if (*rest == '*')
-        times = strtoul(rest + 1, &rest, 10);
-    for (; times > 0; times--, log->len += len)
-        memcpy(log->slots + log->len, levels, len * sizeof *levels);
-    return rest;
-}
-
-/* Adds what the text says to the log. */
-static inline void put_text(struct log *log, const char *text)
-{
-    static const char words[] = "01S_";
-    while (*text) {
-        const char *word = strchr(words, *text);
-        if (word) {
-            log->slots[log->len++] = (uint32_t)(word - words);
-            text++;
-        } else if (*text == '#') {
-            char *rest;
-            log->slots[log->len++] = (uint32_t)strtoul(text + 1, &rest, 16);
-            text = rest;
-        } else {
-            text = *text == ' ' ? text + 1 : put_field_of(log, text);
-        }
-    }
-}
 
 /* The reader gives these records and no more. */
 static inline bool reads_as(log_reader *read, const struct log *log, uint64_t frames, const uint32_t *records,

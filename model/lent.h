@@ -26,10 +26,33 @@ struct reading {
     uint32_t records[MOST_LOG_SLOTS + MOST_SPARE + PLACES_BEHIND];
 };
 
-/* How many places are looked at after a reading: all that were lent, or would have had to be, and some behind them. */
+/* How many places are looked at after a call: all that were lent, or would have had to be, and some behind them. */
+static inline size_t watched(size_t lent, size_t needed)
+{
+    return (lent > needed ? lent : needed) + PLACES_BEHIND;
+}
+
+/* From a place on every word that is watched stands as it stood. */
+static inline bool words_untouched(const uint32_t *words, size_t place, size_t count)
+{
+    for (size_t i = place; i < count; i++)
+        if (words[i] != UNTOUCHED_WORD)
+            return false;
+    return true;
+}
+
+/* The first place where two lists of words part, or how many they are. */
+static inline size_t first_apart(const uint32_t *a, const uint32_t *b, size_t count)
+{
+    size_t place = 0;
+    while (place < count && a[place] == b[place])
+        place++;
+    return place;
+}
+
 static inline size_t places_watched(const struct log *log)
 {
-    return (log->records_len > log->len ? log->records_len : log->len) + PLACES_BEHIND;
+    return watched(log->records_len, log->len);
 }
 
 static inline void read_lent(log_reader *read, const struct log *log, struct reading *reading)
@@ -45,13 +68,9 @@ static inline bool readings_alike(const struct log *log, const struct reading *a
            && memcmp(a->records, b->records, places_watched(log) * sizeof *a->records) == 0;
 }
 
-/* From a place on every word that is watched stands as it stood. */
 static inline bool untouched_from(const struct log *log, const struct reading *reading, size_t place)
 {
-    for (size_t i = place; i < places_watched(log); i++)
-        if (reading->records[i] != UNTOUCHED_WORD)
-            return false;
-    return true;
+    return words_untouched(reading->records, place, places_watched(log));
 }
 
 /* The log, as known_logs.h writes it, and where two readings of it part. */
@@ -65,11 +84,9 @@ static inline void print_difference(const struct log *log, const struct reading 
             printf(" %08" PRIX32 " ", log->slots[i]);
     printf("\nresults %" PRIu32 " and %" PRIu32 ", frames %" PRIu64 " and %" PRIu64 "\n", a->result, b->result,
            a->frames, b->frames);
-    for (size_t i = 0; i < places_watched(log); i++)
-        if (a->records[i] != b->records[i]) {
-            printf("place %zu: %08" PRIX32 " and %08" PRIX32 "\n", i, a->records[i], b->records[i]);
-            return;
-        }
+    size_t place = first_apart(a->records, b->records, places_watched(log));
+    if (place < places_watched(log))
+        printf("place %zu: %08" PRIX32 " and %08" PRIX32 "\n", place, a->records[place], b->records[place]);
 }
 
 #endif

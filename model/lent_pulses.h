@@ -19,10 +19,9 @@ struct conversion {
     uint32_t slots[MOST_PULSES + MOST_SPARE_SLOTS + PLACES_BEHIND];
 };
 
-/* How many places are looked at afterwards: all that were lent, or would have had to be, and some behind them. */
 static inline size_t slots_watched(const struct capture *capture)
 {
-    return (capture->slots_len > capture->len ? capture->slots_len : capture->len) + PLACES_BEHIND;
+    return watched(capture->slots_len, capture->len);
 }
 
 static inline void convert_lent(slots_from_pulses *convert, const struct capture *capture, struct conversion *c)
@@ -46,13 +45,9 @@ static inline bool conversions_alike(const struct capture *capture, const struct
            && memcmp(a->slots, b->slots, slots_watched(capture) * sizeof *a->slots) == 0;
 }
 
-/* From a place on every word that is watched stands as it stood. */
 static inline bool slots_untouched_from(const struct capture *capture, const struct conversion *c, size_t place)
 {
-    for (size_t i = place; i < slots_watched(capture); i++)
-        if (c->slots[i] != UNTOUCHED_WORD)
-            return false;
-    return true;
+    return words_untouched(c->slots, place, slots_watched(capture));
 }
 
 static inline void print_widths(const char *name, uint32_t widths)
@@ -68,13 +63,11 @@ static inline void print_parting(const struct capture *capture, const struct con
     print_widths("0      ", capture->ranges[SLOT_LEVEL_0]);
     print_widths("1      ", capture->ranges[SLOT_LEVEL_1]);
     print_widths("start  ", capture->ranges[SLOT_START]);
-    for (size_t i = 0; i < slots_watched(capture); i++)
-        if (a->slots[i] != b->slots[i]) {
-            if (i < capture->len)
-                print_widths("pulse  ", capture->pulses[i]);
-            printf("place %zu: %08" PRIX32 " and %08" PRIX32 "\n", i, a->slots[i], b->slots[i]);
-            return;
-        }
+    size_t place = first_apart(a->slots, b->slots, slots_watched(capture));
+    if (place < capture->len)
+        print_widths("pulse  ", capture->pulses[place]);
+    if (place < slots_watched(capture))
+        printf("place %zu: %08" PRIX32 " and %08" PRIX32 "\n", place, a->slots[place], b->slots[place]);
 }
 
 #endif

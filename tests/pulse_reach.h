@@ -3,11 +3,8 @@
 #ifndef TESTS_PULSE_REACH_H
 #define TESTS_PULSE_REACH_H
 
-#include "check.h"
 #include "lent_pulses.h"
-
-/* How often each item must be reached. */
-enum { ENOUGH_PULSES = 50 };
+#include "list_reach.h"
 
 enum {
     SLOTS = SLOT_IDLE + 1,
@@ -23,18 +20,10 @@ enum meeting {
     FIRST_INSIDE, SECOND_INSIDE, EQUAL_RANGES, MEETINGS
 };
 
-/* What becomes of a whole capture. */
-enum capture_outcome {
-    EMPTY_WITHOUT_PLACES, EMPTY_WITH_PLACES, AS_MANY_PLACES, PLACES_TO_SPARE,
-    SHORT_BY_SEVERAL, SHORT_BY_ONE, SHORT_WITHOUT_A_PLACE, SHORT_AND_RANGES, SHORT_AND_PULSE, SHORT_AND_BOTH,
-    RANGES_ALONE, RANGES_AND_PULSE, RANGES_OF_NO_PULSE,
-    PULSE_FIRST_ALONE, PULSE_LAST_ALONE, PULSE_ELSEWHERE, PULSE_ONLY, SEVERAL_PULSES, CAPTURE_OUTCOMES
-};
-
 /* Each group's first item; what it is counted by stands at the group's name below. */
 enum {
     BY_OUTCOME,
-    BY_SLOT = BY_OUTCOME + CAPTURE_OUTCOMES,
+    BY_SLOT = BY_OUTCOME + LIST_OUTCOMES,
     LEAST_ABOVE_MOST = BY_SLOT + SLOTS,
     TWO_MEET = LEAST_ABOVE_MOST + SYMBOLS,
     THREE_MEET = TWO_MEET + PAIRS * MEETINGS,
@@ -62,11 +51,8 @@ enum {
     PULSE_ITEMS = LONG_LIST + 1
 };
 
-static const struct {
-    unsigned first, count;
-    const char *name;
-} pulse_groups[] = {
-    {BY_OUTCOME, CAPTURE_OUTCOMES, "each refusal is reached in each order, and lists of each kind are taken"},
+static const struct reach_group pulse_groups[] = {
+    {BY_OUTCOME, LIST_OUTCOMES, "each refusal is reached in each order, and lists of each kind are taken"},
     {BY_SLOT, SLOTS, "each symbol and idle"},
     {LEAST_ABOVE_MOST, SYMBOLS, "19 by least above most alone, in each range"},
     {TWO_MEET, PAIRS * MEETINGS, "19 by one pair alone that meets, each pair in each way"},
@@ -150,61 +136,24 @@ static inline bool count_setting(struct pulse_reach *reach, const uint32_t *rang
     return round + meet > 0;
 }
 
-/* Where the lists' lengths and the pulses alone would already decide. */
-static inline enum capture_outcome outcome_of_pulses(const struct capture *capture)
+static inline struct faults faults_of_capture(const struct capture *capture, bool bad_ranges)
 {
-    size_t wrong = 0, first = 0;
+    struct faults faults = {.len = capture->len, .places = capture->slots_len, .setting = bad_ranges};
     for (size_t i = capture->len; i-- > 0;)
         if (turned_round(capture->pulses[i])) {
-            wrong++;
-            first = i;
+            faults.items++;
+            faults.first = i;
         }
-    if (wrong > 1)
-        return SEVERAL_PULSES;
-    if (wrong == 1 && capture->len == 1)
-        return PULSE_ONLY;
-    if (wrong == 1)
-        return first == 0 ? PULSE_FIRST_ALONE : first == capture->len - 1 ? PULSE_LAST_ALONE : PULSE_ELSEWHERE;
-    if (capture->len == 0)
-        return capture->slots_len == 0 ? EMPTY_WITHOUT_PLACES : EMPTY_WITH_PLACES;
-    return capture->slots_len == capture->len ? AS_MANY_PLACES : PLACES_TO_SPARE;
-}
-
-static inline enum capture_outcome outcome_of_capture(const struct capture *capture, bool bad_ranges)
-{
-    enum capture_outcome of_pulses = outcome_of_pulses(capture);
-    bool bad_pulse = of_pulses >= PULSE_FIRST_ALONE;
-    if (capture->slots_len < capture->len) {
-        if (bad_ranges)
-            return bad_pulse ? SHORT_AND_BOTH : SHORT_AND_RANGES;
-        if (bad_pulse)
-            return SHORT_AND_PULSE;
-        if (capture->slots_len == 0)
-            return SHORT_WITHOUT_A_PLACE;
-        return capture->slots_len == capture->len - 1 ? SHORT_BY_ONE : SHORT_BY_SEVERAL;
-    }
-    if (bad_ranges)
-        return capture->len == 0 ? RANGES_OF_NO_PULSE : bad_pulse ? RANGES_AND_PULSE : RANGES_ALONE;
-    return of_pulses;
-}
-
-/* "12, ahead of the others", then 19, then 20. */
-static inline uint32_t number_for(enum capture_outcome outcome)
-{
-    if (outcome <= PLACES_TO_SPARE)
-        return TAKEN;
-    if (outcome <= SHORT_AND_BOTH)
-        return REFUSED_SHORT_LIST;
-    return outcome <= RANGES_OF_NO_PULSE ? REFUSED_RANGES : REFUSED_PULSE;
+    return faults;
 }
 
 static inline void count_capture(struct pulse_reach *reach, const struct capture *capture, uint32_t number)
 {
-    bool bad_ranges = count_setting(reach, capture->ranges);
-    enum capture_outcome outcome = outcome_of_capture(capture, bad_ranges);
+    struct faults faults = faults_of_capture(capture, count_setting(reach, capture->ranges));
+    enum list_outcome outcome = outcome_of_list(&faults);
     reach->captures++;
     reach->times[BY_OUTCOME + outcome]++;
-    reach->other_numbers += number != number_for(outcome);
+    reach->other_numbers += number != number_for(outcome, REFUSED_RANGES, REFUSED_PULSE);
 }
 
 /* A setting that is taken. */
@@ -313,21 +262,7 @@ static inline bool is_pulse_item(unsigned first, unsigned item)
 
 static inline void check_pulses_reached(const struct pulse_reach *reach)
 {
-    unsigned items = 0;
-    for (unsigned group = 0; group < PULSE_GROUPS; group++) {
-        unsigned long least = -1ul;
-        unsigned which = 0;
-        for (unsigned i = 0; i < pulse_groups[group].count; i++) {
-            unsigned long times = reach->times[pulse_groups[group].first + i];
-            if (!is_pulse_item(pulse_groups[group].first, i))
-                continue;
-            items++;
-            which = times < least ? i : which;
-            least = times < least ? times : least;
-        }
-        check(pulse_groups[group].name, least >= ENOUGH_PULSES);
-        printf("    least often item %u, %lu times\n", which, least);
-    }
+    unsigned items = check_groups(pulse_groups, PULSE_GROUPS, reach->times, is_pulse_item);
     check("each capture has the number that its faults ask for", reach->other_numbers == 0);
     printf("%u items, %lu captures, %lu pulses\n", items, reach->captures, reach->pulses);
 }

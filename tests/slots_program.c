@@ -8,44 +8,16 @@
    slots_program log SEED                  a random log, as slot words
    slots_program measure SEED ARGUMENT..   pulses that become the slot words on standard input
    slots_program print ARGUMENT..          what the program writes with these arguments */
-#include <ctype.h>
-
 #include "known_pulses.h"
 #include "traffic/logs.h"
+#include "word_files.h"
 
-enum { MOST_WORDS = 16384, WORD_BYTES = 4, ARGUMENTS = 2 * SYMBOLS, MOST_DIGITS = 5 };
-
-static void put_words(FILE *f, const uint32_t *words, size_t count)
-{
-    for (size_t i = 0; i < count; i++)
-        for (int byte = 0; byte < WORD_BYTES; byte++)
-            putc((int)(words[i] >> 8 * byte & 0xFF), f);
-}
-
-/* At most so many words, and how many bytes there were: those of the words and one more at most. */
-static size_t get_words(uint32_t *words, size_t most)
-{
-    size_t bytes = 0;
-    for (int byte; bytes <= most * WORD_BYTES && (byte = getchar()) != EOF; bytes++)
-        if (bytes < most * WORD_BYTES)
-            words[bytes / WORD_BYTES] |= (uint32_t)byte << 8 * (bytes % WORD_BYTES);
-    return bytes;
-}
+enum { MOST_WORDS = 16384, ARGUMENTS = 2 * SYMBOLS };
 
 static void put_setting(const uint32_t *ranges)
 {
     for (int i = 0; i < SYMBOLS; i++)
         printf("%" PRIu32 " %" PRIu32 "%c", least_of(ranges[i]), most_of(ranges[i]), i < SYMBOLS - 1 ? ' ' : '\n');
-}
-
-/* A decimal number of 1 to 5 digits, up to 65,535. */
-static bool get_number(const char *text, uint32_t *number)
-{
-    size_t digits = 0;
-    *number = 0;
-    for (; isdigit((unsigned char)text[digits]) && digits < MOST_DIGITS; digits++)
-        *number = *number * 10 + (uint32_t)(text[digits] - '0');
-    return digits > 0 && text[digits] == 0 && *number <= MOST_TICKS;
 }
 
 static bool get_setting(int count, char **arguments, uint32_t *ranges)
@@ -57,16 +29,6 @@ static bool get_setting(int count, char **arguments, uint32_t *ranges)
     for (int i = 0; i < SYMBOLS; i++)
         ranges[i] = WIDTHS(numbers[2 * i], numbers[2 * i + 1]);
     return true;
-}
-
-static FILE *file_in(const char *folder, const char *name)
-{
-    char path[4096];
-    snprintf(path, sizeof path, "%s/%s", folder, name);
-    FILE *f = fopen(path, "wb");
-    if (!f)
-        exit(2);
-    return f;
 }
 
 static int lay(const char *folder, const struct capture *capture, const char *slots, uint32_t number)
@@ -158,10 +120,7 @@ static int print(int count, char **arguments)
         return 0;
     }
     put_words(stdout, slots, whole);
-    if (bytes > MOST_WORDS * WORD_BYTES)
-        fputs("more\n", stderr);
-    else if (bytes % WORD_BYTES != 0)
-        fputs("short\n", stderr);
+    say_rest(bytes, MOST_WORDS);
     return ferror(stdout);
 }
 

@@ -1,5 +1,6 @@
 /* A unit on a test bench. */
 #include <stdio.h>
+#include <string.h>
 
 #include "bench.h"
 
@@ -76,14 +77,19 @@ bool call_unit(struct unit *u, unsigned master, unsigned slave, unsigned control
     return true;
 }
 
-int main(void)
+static const struct {
+    const char *name;
+    void (*try)(void);
+} groups[] = {
+    {"words", known_cases}, {"scenes", scenes}, {"circles", circles}, {"striking", striking}, {"life", life},
+    {"logs", logs}, {"pulses", pulses},
+};
+
+/* cases [GROUP]: all of them, or one group alone. */
+int main(int argc, char **argv)
 {
-    known_cases();
-    scenes();
-    circles();
-    striking();
-    life();
-    logs();
-    pulses();
+    for (size_t i = 0; i < sizeof groups / sizeof *groups; i++)
+        if (argc < 2 || strcmp(argv[1], groups[i].name) == 0)
+            groups[i].try();
     return cases_failed > 0;
 }

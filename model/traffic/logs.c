@@ -405,9 +405,7 @@ static void draw_noise(struct random *r, struct log *log)
         put(log, random_chance(r, others) ? SLOT_START + random_below(r, 2) : random_below(r, 2));
 }
 
-/* "a word that is no slot word": just over 3, with a stray bit, of another kind, or any; the last word, the first or
-   one anywhere. */
-static void spoil_words(struct random *r, struct log *log)
+void spoil_words(struct random *r, struct log *log)
 {
     static const uint32_t wrong[] = {4, 5, 6, 7, 0x100, 0x10000002, 0x20000000, 0x80000100, 0xFFFFFFFF};
     for (uint32_t count = 1 + random_below(r, 2); count > 0; count--) {
@@ -416,6 +414,13 @@ static void spoil_words(struct random *r, struct log *log)
             place = log->len - 1;
         log->slots[place] = random_below(r, 2) ? random_pick(r, wrong) : random_word(r) | 4;
     }
+}
+
+void lend_places(struct random *r, struct log *log)
+{
+    log->records_len = log->len + random_below(r, MOST_SPARE + 1);
+    if (log->len > 0 && random_chance(r, 40))
+        log->records_len = random_below(r, 2) ? log->len - 1 : random_below(r, (uint32_t)log->len);
 }
 
 void draw_log(struct random *r, struct log *log)
@@ -433,9 +438,7 @@ void draw_log(struct random *r, struct log *log)
         log->len = random_below(r, (uint32_t)log->len + 1);
     if (log->len > 0 && random_chance(r, 60))
         spoil_words(r, log);
-    log->records_len = log->len + random_below(r, MOST_SPARE + 1);
-    if (log->len > 0 && random_chance(r, 40))
-        log->records_len = random_below(r, 2) ? log->len - 1 : random_below(r, (uint32_t)log->len);
+    lend_places(r, log);
 }
 
 void draw_mixed_log(struct random *r, struct log *log)

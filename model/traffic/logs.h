@@ -23,6 +23,13 @@ struct log {
    are too short. */
 void draw_log(struct random *r, struct log *log);
 
+/* "a word that is no slot word": just over 3, with a stray bit, of another kind, or any; the last word, the first or
+   one anywhere. The log is not empty. */
+void spoil_words(struct random *r, struct log *log);
+
+/* An answer list for the log: as long, longer, or seldom too short. */
+void lend_places(struct random *r, struct log *log);
+
 /* Fills the room with the frames of such logs, all of them slot words. */
 void draw_mixed_log(struct random *r, struct log *log);
 
