@@ -6,6 +6,7 @@ model='unit frame judgement ending registers'
 traffic='traffic/traffic traffic/host traffic/draw traffic/line'
 reader='reader traffic/logs'
 pulses='pulses traffic/pulses traffic/logs'
+load='load traffic/loads traffic/logs'
 # as many as contest.c draws
 lists=1000
 
@@ -31,8 +32,8 @@ try_plain() {
 prepare() {
     mkdir -p "$out" || give_up "no folder $out"
     make >"$out/log" 2>&1 || give_up "no library, see $out/log"
-    make -s -C model $(printf '../target/model/%s.o ' $model $traffic contest $reader pulses traffic/pulses logs-parts \
-        pulses-parts) || give_up 'no model'
+    make -s -C model $(printf '../target/model/%s.o ' $model $traffic contest $reader pulses traffic/pulses load \
+        traffic/loads logs-parts pulses-parts loads-parts) || give_up 'no model'
     build record record "$traffic $model"
     build measure 'measure quick' "$model"
     build contest contest contest
@@ -40,6 +41,8 @@ prepare() {
     build logs 'logs plain_log' "$reader"
     try_plain plain_pulses plain_slots=iebus_slots pulses
     build pulses 'pulses plain_pulses' "$pulses"
+    try_plain plain_load plain_load=iebus_load loads
+    build loads 'loads plain_load' "$load"
     for kind in slots mixed; do
         "$out/record" "$kind" "$1" >"$out/$kind" || give_up "$kind traffic is not recorded"
     done

@@ -1,5 +1,5 @@
-/* An IEBus unit (the uPD72042A and B on layers 1 and 2), the contest of several masters, slots from measured pulses and
-   a reader of line logs, for a host in C or C++.
+/* An IEBus unit (the uPD72042A and B on layers 1 and 2), the contest of several masters, slots from measured pulses, a
+   reader of line logs and the load of a line, for a host in C or C++.
 
    A host owns one state for each unit on its board and talks to it in words of 32 bits, one word for each slot of the
    line and one for each access to a register; each word has one answer. After each answer the host knows what the unit
@@ -38,7 +38,7 @@ extern "C" {
 #define IEBUS_STATE_BYTES 119
 
 /* Given by iebus_unit_reset and iebus_unit_run where the state has another size than that. It is no number of the
-   bus's rules, which end at 20. */
+   bus's rules, which end at 25. */
 #define IEBUS_BAD_STATE_SIZE 100
 
 /* Makes a state that of a reset unit: no address, nothing requested, buffers empty, unlocked, waiting for a start.
@@ -136,6 +136,22 @@ uint32_t iebus_read_log(uint32_t mode, const uint32_t *slots, size_t slots_len, 
 uint32_t iebus_slots(uint32_t zero, uint32_t one, uint32_t start, const uint32_t *pulses, size_t pulses_len,
                      uint32_t *slots, size_t slots_len);
 
+/* How full the line was: figures[i] is how many of the latest `w` slots are not IEBUS_SLOT_IDLE after slot i of a log,
+   that is of slots[i] and the w - 1 before it or, where fewer have come, of all up to it. Starts and levels count, in
+   frames and outside. `*largest` gets the largest figure and `*place` the first place where it was reached; places
+   count from 0. An empty log has the largest 0 and no place, and leaves `*place` as it is.
+
+   The log may be of any length; w is 1 to IEBUS_MOST_WINDOW, and each slot takes as much work whatever w is. Places
+   past the last figure keep their contents. Lists are of uint32_t in the host's own order, and their lengths count
+   words.
+
+   Gives 0 or, with nothing written, not `*largest` or `*place` either, the first that applies of
+     12 IEBUS_REFUSED_SHORT_LIST   figures_len is less than slots_len
+     25 IEBUS_REFUSED_WINDOW       w is 0 or over 4,096, also where the log is empty
+     16 IEBUS_REFUSED_NO_SLOT      a word is over 3, wherever it stands */
+uint32_t iebus_load(uint32_t w, const uint32_t *slots, size_t slots_len, uint32_t *figures, size_t figures_len,
+                    uint32_t *largest, uint64_t *place);
+
 /* ---- words: the kind is in the top four bits */
 
 enum {
@@ -223,7 +239,8 @@ enum {
     IEBUS_REFUSED_CONTENDERS_ALIKE = 15,
     IEBUS_REFUSED_NO_SLOT = 16,
     IEBUS_REFUSED_RANGES = 19,
-    IEBUS_REFUSED_PULSE = 20
+    IEBUS_REFUSED_PULSE = 20,
+    IEBUS_REFUSED_WINDOW = 25
 };
 
 /* ---- registers that are written */
@@ -420,7 +437,8 @@ enum {
     IEBUS_GENERAL_BROADCAST = 0xFFF,     /* a broadcast to everybody; else to those with the same top 4 bits */
     IEBUS_MOST_CONTENDERS = 50,
     IEBUS_CONTEST_SLOTS = 13,            /* a contest is decided in slots 2 to 14 */
-    IEBUS_LAST_CONTEST_SLOT = 14
+    IEBUS_LAST_CONTEST_SLOT = 14,
+    IEBUS_MOST_WINDOW = 4096             /* slots that a figure of the load looks back over */
 };
 
 #ifdef __cplusplus

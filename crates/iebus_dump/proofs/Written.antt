@@ -15,11 +15,11 @@ use Rattle.line.proofs.Either.{below-or-not}
 use Rattle.line.proofs.Places.{take-min}
 use Rattle.text.specs.Hex.{digitOf, hexOf}
 use Rattle.iebus_dump.specs.Line.{bytesColumn, endingColumn, fieldsOf, lineOf, markColumn}
-use Rattle.iebus_dump.specs.Writing.{LinesUpTo, ackedBy, aheadBy, frameBy, frameIn, linesIn}
+use Rattle.iebus_dump.specs.Writing.{ackedBy, aheadBy, frameBy, frameIn, linesIn}
 use Rattle.iebus_dump.specs.Writing.{slotLine, usedBy}
 use Rattle.pieces.specs.Pieces.{Put}
 use Rattle.iebus_dump.proofs.Digits.{hex-two}
-use Rattle.pieces.proofs.Pieces.{nothing, then}
+use Rattle.pieces.proofs.Pieces.{UpTo, up-to-all, up-to-none, up-to-one}
 
 bytes-behind : (bs : List ℕ) (b : ℕ) → bytesColumn (bs ++ b ∷ []) ≡ bytesColumn bs ++ (0x20 ∷ hexOf 2 b)
 unfolding bytesColumn
@@ -110,8 +110,12 @@ no-lines : (place : ℕ) (words : List ℕ) → linesIn place [] words ≡ []
 unfolding linesIn
 no-lines place words = refl
 
+-- the first lines of slots stand behind what was written before; what is left of the words begins at `next`
+pub record LinesUpTo (slots words text : List ℕ) (at place next end : ℕ) (after : List ℕ) : Type 0 where
+  pub up : UpTo text at (linesIn 0 slots words) (linesIn place (drop place slots) (drop next words)) end after
+
 pub begun : (slots words text : List ℕ) (at : ℕ) → LinesUpTo slots words text at 0 0 at text
-begun slots words text at = record { front = []; put = nothing text at; rest = refl }
+begun slots words text at = record { up = up-to-none text at (linesIn 0 slots words) }
 
 pub one-more : {slots words text after later part : List ℕ} {at i next end further following : ℕ}
     → LinesUpTo slots words text at i next end after → i < length slots
@@ -122,33 +126,24 @@ one-more {slots} {words} {text} {after} {later} {part} {at} {i} {next} {end} {fu
     up more is line goes =
     let left : List ℕ = drop next words in
     let slot : ℕ = getD slots i 0 in
-    let behind : drop following words ≡ drop (usedBy slot left) left =
-    ap (λ (n : ℕ). drop n words) goes ∙ drop-min words (next + usedBy slot part)
-    ∙ ap (λ (l : List ℕ). drop (next + usedBy slot l) words) is
-    ∙ sym (drop-drop (usedBy slot left) next words)
+    let behind : drop (usedBy slot left) left ≡ drop following words =
+    drop-drop (usedBy slot left) next words
+    ∙ ap (λ (l : List ℕ). drop (next + usedBy slot l) words) (sym is)
+    ∙ sym (drop-min words (next + usedBy slot part)) ∙ ap (λ (n : ℕ). drop n words) (sym goes)
     in
-    record {
-      front = up .front ++ slotLine i slot part;
-      put = then (up .put) line;
-      rest =
-          ap (λ (l : List ℕ). up .front ++ slotLine i slot l
-          ++ linesIn (i + 1) (drop (i + 1) slots) (drop following words))
-          is
-          ∙ ap (λ (l : List ℕ). up .front ++ slotLine i slot left ++ linesIn (i + 1) (drop (i + 1) slots) l) behind
-          ∙ append-assoc (up .front) (slotLine i slot left) _
-          ∙ ap (λ (l : List ℕ). up .front ++ l) (sym (next-line slots left i more))
-          ∙ up .rest;
-    }
+    let whole : linesIn i (drop i slots) left
+    ≡ slotLine i slot part ++ linesIn (i + 1) (drop (i + 1) slots) (drop following words) =
+    next-line slots left i more
+    ∙ ap (λ (l : List ℕ). slotLine i slot left ++ linesIn (i + 1) (drop (i + 1) slots) l) behind
+    ∙ ap (λ (l : List ℕ). slotLine i slot l ++ linesIn (i + 1) (drop (i + 1) slots) (drop following words)) (sym is)
+    in
+    record { up = up-to-one (rw whole at (up .up)) line }
 
 pub all-lines : {slots words text after : List ℕ} {at i next end : ℕ}
     → LinesUpTo slots words text at i next end after → length slots ≤ i
     → Put text at (linesIn 0 slots words) end after
 all-lines {slots} {words} {text} {after} {at} {i} {next} {end} up over =
-    let whole : up .front ≡ linesIn 0 slots words =
-    sym (append-nil (up .front))
-    ∙ ap (λ (l : List ℕ). up .front ++ l)
-    (sym (ap (λ (l : List ℕ). linesIn i l (drop next words)) (drop-of-length-le slots over)
-    ∙ no-lines i (drop next words)))
-    ∙ up .rest
+    let none : linesIn i (drop i slots) (drop next words) ≡ [] =
+    ap (λ (l : List ℕ). linesIn i l (drop next words)) (drop-of-length-le slots over) ∙ no-lines i (drop next words)
     in
-    rw whole at (up .put)
+    up-to-all (rw none at (up .up))

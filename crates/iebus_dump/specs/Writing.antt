@@ -1,6 +1,5 @@
 -- What private functions cite: a frame's line by the words of its record.
 use mathlib.Core.Bool.{Bool}
-use mathlib.Core.Path.{_≡_}
 use mathlib.Core.List.{List, [], _∷_, _++_}
 use Prim.Native.Nat.{ℕ, suc, _+_, _*_, _/_, _%_}
 use lib.Dec.{eqb, ltb}
@@ -10,7 +9,6 @@ use Rattle.line.specs.Numbers.{slotStart}
 use Rattle.logs.specs.declared.LogRead.{LogRead}
 use Rattle.logs.specs.declared.LogRead.the-variants.{Frames, ShortList, NoSlot}
 use Rattle.logs.specs.Relied.{fieldsAt}
-use Rattle.pieces.specs.Pieces.{Put}
 use Rattle.text.specs.Hex.{digitOf}
 use Rattle.text.specs.declared.last.Last.the-variants.{Short, More}
 use Rattle.text.specs.Last.{lastText}
@@ -91,9 +89,3 @@ shownBy last count = pick (eqb last 0) 0 count
 
 unfoldable pub textBy : ℕ → List ℕ → List ℕ → List ℕ
 textBy last slots words = header ++ linesIn 0 slots words ++ lastAt last
-
--- the first lines of slots stand behind what was written before; what is left of the words begins at `next`
-pub record LinesUpTo (slots words text : List ℕ) (at place next end : ℕ) (after : List ℕ) : Type 0 where
-  pub front : List ℕ
-  pub put : Put text at front end after
-  pub rest : front ++ linesIn place (drop place slots) (drop next words) ≡ linesIn 0 slots words

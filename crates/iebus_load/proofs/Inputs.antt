@@ -86,7 +86,8 @@ written-by plot w BadWindow slots rest after counted is = refl
 written-by plot w NoSlot slots rest after counted is = refl
 
 pub whole-made : (plot : Bool) (input : List ℕ) {w : ℕ} {slots before after : List ℕ} {loaded : Loaded} {count : ℕ}
-    → slots ≡ slotsOf input → length before ≡ mostSlots → Loads w slots before loaded after → count ≡ length (slotsOf input)
+    → slots ≡ slotsOf input → length before ≡ mostSlots → Loads w slots before loaded after
+    → count ≡ length (slotsOf input)
     → wholeBy plot w loaded slots (take (count - 0) after) ≡ wholeOf plot w input
 whole-made plot input {w} {slots} {before} {after} {loaded} {count} is room l counted =
     let rest : List ℕ = drop (length (writtenOf w loaded slots)) before in

@@ -49,7 +49,9 @@ made-spec =
     let plot = entry .args .plot in
     let counted = words .put-words .ensures in
     let read = slots-read input (words .put-words .last .1 .0) _ (counted .0) places (counted .1) in
-    let many : words .put-words .result ≡ length (slotsOf input) = omega (arith, counted .0, places, slots-count input) in
+    let many : words .put-words .result ≡ length (slotsOf input) =
+    omega (arith, counted .0, places, slots-count input)
+    in
     let whole = whole-made plot input read places (load .load .ensures .0) many in
     let out = front (named (c .before .before .put-loaded .ensures) whole) in
     let is = loaded-is input read places (load .load .ensures .0) in

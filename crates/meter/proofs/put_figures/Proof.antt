@@ -43,7 +43,8 @@ put-figures-spec =
     let entry = now .before .before .before in
     written-one (now .loop .most) (now .loop .inv) (omega arith)
     (omega (arith, now .loop .inv .figures .long, entry .pre .2))
-    (figure-is (now .loop .inv) (entry .pre .0) (omega arith) (c .before .before .busy .ensures) (c .before .leaving .ensures))
+    (figure-is (now .loop .inv) (entry .pre .0) (omega arith) (c .before .before .busy .ensures)
+    (c .before .leaving .ensures))
     (c .higher .ensures))
     (λ c. c .before .loop .inv .figures .long)
     (λ c. let all = written-all (c .before .loop .inv) (c .loop-test .left) in

@@ -4,8 +4,7 @@ use native.Mathlib.Omega.{arith}
 use mathlib.Core.Path.{_≡_, _∙_, ap, refl}
 use borrow.Author.Needs.{needs}
 use lib.ListN.{length}
-use Rattle.iebus_dump.specs.Writing.{LinesUpTo}
-use Rattle.iebus_dump.proofs.Written.{all-lines, begun, from-place, one-more}
+use Rattle.iebus_dump.proofs.Written.{LinesUpTo, all-lines, begun, from-place, one-more}
 use Rattle.iebus_dump.proofs.lines.put_lines.Statement.{statement}
 use Rattle.iebus_dump.proofs.lines.put_lines.Tie as tie
 

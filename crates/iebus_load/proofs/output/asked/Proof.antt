@@ -17,6 +17,8 @@ asked-spec =
     (λ c. search needs)
     (λ c. search needs)
     (λ c. let long = c .before .before .before .before in
-    simp (le-ltb _ _ (long .before .if1 .left), three (long .before .before .args .argument .now) (long .if2 .left) ∙ c .if3 .taken))
+    let letters = three (long .before .before .args .argument .now) (long .if2 .left) in
+    simp (le-ltb _ _ (long .before .if1 .left), letters ∙ c .if3 .taken))
     (λ c. let long = c .before .before .before .before in
-    simp (le-ltb _ _ (long .before .if1 .left), three (long .before .before .args .argument .now) (long .if2 .left) ∙ c .if3 .left)))
+    let letters = three (long .before .before .args .argument .now) (long .if2 .left) in
+    simp (le-ltb _ _ (long .before .if1 .left), letters ∙ c .if3 .left)))
