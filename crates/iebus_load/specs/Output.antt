@@ -1,9 +1,10 @@
 -- What is made of an input: the summary or the plot of its figures, and what is said besides.
 use mathlib.Core.Bool.{Bool}
-use mathlib.Core.List.{List, []}
-use Prim.Native.Nat.{ℕ, _+_, _*_, _%_}
+use mathlib.Core.List.{List, [], _++_}
+use mathlib.Core.Path.{_≡_}
+use Prim.Native.Nat.{ℕ, _+_, _*_, _%_, _≤_}
 use lib.Dec.{eqb, ltb}
-use lib.ListN.{length, take}
+use lib.ListN.{drop, length, take}
 use Rattle.line.specs.Cases.{same}
 use Rattle.line.specs.Choice.{pick}
 use Rattle.loads.specs.declared.Loaded.{Loaded}
@@ -71,6 +72,15 @@ messageOf Empty bytes = message.Empty
 messageOf ShortList bytes = message.Nothing
 messageOf BadWindow bytes = message.BadWindow
 messageOf NoSlot bytes = message.NoSlot
+
+-- what has been made of an input in a text: so many bytes, and what is said; the rest of the text is as it was, and there
+-- is room for all of it where the text has so many bytes
+pub record Made (plot : Bool) (w : ℕ) (input text : List ℕ) (count : ℕ) (said : Message) (after : List ℕ) : Type 0 where
+  pub counted : count ≡ length (outputOf plot w input (length text))
+  pub written : after ≡ outputOf plot w input (length text) ++ drop count text
+  pub message : said ≡ messageOf (loadedOf w input) (length input)
+  pub within : count ≤ length text
+  pub fits : length (wholeOf plot w input) ≤ textBytes
 
 -- what the second of so many arguments asks for, the program's own name counted: without it the summary
 unfoldable pub askedOf : ℕ → List ℕ → Wanted

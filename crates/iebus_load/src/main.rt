@@ -7,10 +7,9 @@
 // 16`, or `empty`, and then nothing is written; `more` where any byte follows the last slot that is read, `short` for 1
 // to 3 bytes left over; or how to call the program. The status is 0 whatever the log is.
 ghost use mathlib.Core.Path.{_≡_};
-ghost use mathlib.Core.List.{_++_};
 ghost use Prim.Native.Nat.{_≤_};
-ghost use lib.ListN.{drop, length};
-ghost use Rattle.iebus_load.specs.Output.{loadedOf, messageOf, outputOf, textBytes, wholeOf};
+ghost use lib.ListN.{length};
+ghost use Rattle.iebus_load.specs.Output.{Made, mostSlots, textBytes};
 
 mod forms;
 mod output;
@@ -47,28 +46,39 @@ struct Outcome {
     message: Message,
 }
 
-// The summary or the plot goes to the front of the text, as far as there is room, and the rest of the text stays as it
-// was. TEXT_BYTES are room for all of it.
-fn made(plot: bool, w: u32, input: &[u8], text: &mut [u8]) -> Outcome
-    ensures count { λ r. ⌜ r .count ≡ length (outputOf plot w (now (input .entry)) (length (now (text .entry)))) ⌝ }
-    ensures written { λ r. ⌜
-        now (text .exit) ≡ outputOf plot w (now (input .entry)) (length (now (text .entry)))
-        ++ drop (r .count) (now (text .entry)) ⌝ }
-    ensures message { λ r. ⌜
-        r .message ≡ messageOf (loadedOf w (now (input .entry))) (length (now (input .entry))) ⌝ }
-    ensures within { λ r. ⌜ r .count ≤ length (now (text .entry)) ⌝ }
-    ensures fits { λ _. ⌜ length (wholeOf plot w (now (input .entry))) ≤ textBytes ⌝ }
+// The same as `made`, with lists for the slots and the figures that are lent: their lengths are all that matters of
+// them, and a proof that sees their contents takes several times as long.
+fn made_in(
+    plot: bool,
+    w: u32,
+    input: &[u8],
+    slots: &mut [u32],
+    figures: &mut [u32],
+    text: &mut [u8],
+) -> Outcome
+    requires { ⌜ (length (now slots) ≡ mostSlots) × (length (now figures) ≡ mostSlots) ⌝ }
+    ensures { λ r. ⌜
+        Made plot w (now (input .entry)) (now (text .entry)) (r .count) (r .message) (now (text .exit)) ⌝ }
 {
-    let mut slots = [0u32; MOST_SLOTS];
-    let mut figures = [0u32; MOST_SLOTS];
-    let count = put_words(input, &mut slots);
-    let loaded = load(w, &slots[0..count], &mut figures);
+    let count = put_words(input, slots);
+    let loaded = load(w, &slots[0..count], figures);
     let message = told(loaded, input.len());
     let end = put_loaded(plot, text, w, loaded, &slots[0..count], &figures[0..count]);
     Outcome {
         count: end,
         message,
     }
+}
+
+// The summary or the plot goes to the front of the text, as far as there is room, and the rest of the text stays as it
+// was. TEXT_BYTES are room for all of it.
+fn made(plot: bool, w: u32, input: &[u8], text: &mut [u8]) -> Outcome
+    ensures { λ r. ⌜
+        Made plot w (now (input .entry)) (now (text .entry)) (r .count) (r .message) (now (text .exit)) ⌝ }
+{
+    let mut slots = [0u32; MOST_SLOTS];
+    let mut figures = [0u32; MOST_SLOTS];
+    made_in(plot, w, input, &mut slots, &mut figures, text)
 }
 
 fn say(message: Message) {
