@@ -73,9 +73,10 @@ messageOf ShortList bytes = message.Nothing
 messageOf BadWindow bytes = message.BadWindow
 messageOf NoSlot bytes = message.NoSlot
 
--- what has been made of an input in a text: so many bytes, and what is said; the rest of the text is as it was, and there
--- is room for all of it where the text has so many bytes
-pub record Made (plot : Bool) (w : ℕ) (input text : List ℕ) (count : ℕ) (said : Message) (after : List ℕ) : Type 0 where
+-- what has been made of an input in a text: so many bytes, and what is said. The rest of the text is as it was, and a
+-- text of `textBytes` has room for all of it.
+pub record Made (plot : Bool) (w : ℕ) (input text : List ℕ) (count : ℕ) (said : Message) (after : List ℕ)
+    : Type 0 where
   pub counted : count ≡ length (outputOf plot w input (length text))
   pub written : after ≡ outputOf plot w input (length text) ++ drop count text
   pub message : said ≡ messageOf (loadedOf w input) (length input)
