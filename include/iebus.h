@@ -213,7 +213,7 @@ static inline uint32_t iebus_get_word(const uint8_t *bytes)
     return (uint32_t)bytes[0] | (uint32_t)bytes[1] << 8 | (uint32_t)bytes[2] << 16 | (uint32_t)bytes[3] << 24;
 }
 
-/* ---- refusals: the lowest number that applies is given */
+/* ---- refusals: the lowest number that applies is given, but where a function names another order */
 
 enum {
     /* because of the word */

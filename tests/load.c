@@ -112,6 +112,12 @@ static void long_log(void)
     check("2,000,000 slots in a window of 1", long_log_alike(1));
     check("2,000,000 slots in a window of 64", long_log_alike(64));
     check("2,000,000 slots in a window of 4,096", long_log_alike(4096));
+    memset(figures, UNTOUCHED_BYTE, sizeof figures);
+    check("1,000 of them in a list for all: each place past the figures is kept",
+          iebus_load(64, long_slots, 1000, figures, LONG_SLOTS, &largest, &place) == TAKEN
+          && words_untouched(figures, 1000, LONG_SLOTS));
+    largest = UNTOUCHED_LARGEST;
+    place = UNTOUCHED_PLACE;
     long_slots[LONG_SLOTS - 1] = 4;
     memset(figures, UNTOUCHED_BYTE, sizeof figures);
     check("the last of them no slot word is number 16, and nothing is written",

@@ -59,11 +59,11 @@ static const char plot_figure[] = "V@h1\n";
 
 static const char plot_tail[] =
     "V0z\"/>\n"
-    "<path fill=\"#a30\" stroke=\"#a30\" stroke-width=\"2\" vector-effect=\"non-scaling-stroke\" d=\"M@ 0V@h1V0z\"/>\n"
     "</g>\n"
     "</svg>\n"
     "<path fill=\"none\" stroke=\"#000\" stroke-opacity=\".2\" d=\"M70 80H910M70 150H910M70 220H910M70 290H910"
     "M70 360H910M70 80V360M280 80V360M490 80V360M700 80V360M910 80V360\"/>\n"
+    "<path stroke=\"#a30\" stroke-width=\"2\" d=\"M@ 360V@\"/>\n"
     "</svg>\n";
 
 static void put_text_with(FILE *f, const char *text, const size_t *numbers)
@@ -91,7 +91,8 @@ static void put_plot(FILE *f, const struct told *t)
         t->w, t->largest, (size_t)t->largest * 100 / t->w, t->place, t->busy, t->slots, t->busy * 100 / t->slots,
         q, 2 * q, 3 * q, 4 * q, 4 * q, t->w, t->w
     };
-    const size_t tail[] = {t->place, t->largest};
+    /* the middle of the slot in a plot that is 840 wide, and the height of its figure in one that is 280 high */
+    const size_t tail[] = {70 + 840 * (2 * t->place + 1) / (8 * q), 360 - 280 * (size_t)t->largest / t->w};
     put_text_with(f, plot_head, head);
     for (size_t i = 0; i < t->slots; i++) {
         size_t figure = t->figures[i];

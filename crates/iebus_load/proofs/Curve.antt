@@ -59,11 +59,11 @@ head-length : (f : Facts) → length (woven headForm (headNumbers f)) ≡ 992
 unfolding headForm
 head-length f = woven-length headForm (headNumbers f)
 
-tail-length : (f : Facts) → length (woven tailForm (tailNumbers f)) ≡ 303
+tail-length : (f : Facts) → length (woven tailForm (tailNumbers f)) ≡ 253
 unfolding tailForm
 tail-length f = woven-length tailForm (tailNumbers f)
 
-plot-length : (f : Facts) (figures : List ℕ) → length (plotOf f figures) ≡ 992 + length figures * 9 + 303
+plot-length : (f : Facts) (figures : List ℕ) → length (plotOf f figures) ≡ 992 + length figures * 9 + 253
 unfolding plotOf
 plot-length f figures =
     let head : List ℕ = woven headForm (headNumbers f) in

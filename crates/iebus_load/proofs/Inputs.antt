@@ -44,7 +44,9 @@ sized {w} {slots} {largest} {place} l = record {
   slots-small = l .few;
   busy-small = omega (arith, busy-most slots, l .few);
   window-some = l .window-some;
+  window-small = l .window-small;
   largest-small = l .largest-small;
+  place-small = l .place-small;
 }
 
 pub of-log : (w room : ℕ) (slots : List ℕ) {loaded : Loaded} → length slots ≤ mostSlots → loaded ≡ endOf w room slots
@@ -61,8 +63,8 @@ of-log w room slots {loaded} few ends largest place is =
       some = right .some;
       few = few;
       window-some = right .window .some;
-      largest-small = omega
-          (arith, peaks .reached, there, window-most w (take (place + 1) slots), right .window .small);
+      window-small = omega (arith, right .window .small);
+      largest-small = omega (arith, peaks .reached, there, window-most w (take (place + 1) slots));
       place-small = omega (arith, peaks .within, many, few);
     }
 

@@ -6,7 +6,7 @@ use Rattle.line.specs.Cases.{Case, _gives_, allGiven}
 use Rattle.pieces.specs.Pieces.{bytesOf}
 use Rattle.iebus_load.specs.declared.texts.Facts.{Facts}
 use Rattle.iebus_load.specs.Forms.{columnOf, woven}
-use Rattle.iebus_load.specs.Texts.{curveOf, headNumbers, percentOf, summaryNumbers, summaryOf}
+use Rattle.iebus_load.specs.Texts.{curveOf, headNumbers, percentOf, summaryNumbers, summaryOf, tailNumbers}
 
 -- five columns, right-aligned, at each number of digits
 abbrev columnCases : List Case
@@ -40,8 +40,11 @@ textCases =
     ++ bytesOf "  252 not idle there at most\n   98 % of the window\n 1503 is the first slot after which it was so\n")
     ∷ (headNumbers facts
     gives 256 ∷ 252 ∷ 98 ∷ 1503 ∷ 1365 ∷ 2581 ∷ 52 ∷ 646 ∷ 1292 ∷ 1938 ∷ 2584 ∷ 2584 ∷ 256 ∷ 256 ∷ [])
+    ∷ (tailNumbers facts gives 558 ∷ 85 ∷ [])
+    ∷ (tailNumbers (record { slots = 1; busy = 0; window = 4; largest = 0; place = 0 }) gives 175 ∷ 360 ∷ [])
+    ∷ (tailNumbers (record { slots = 4; busy = 4; window = 4; largest = 4; place = 3 }) gives 805 ∷ 80 ∷ [])
     ∷ []
 
 pub text-cases : allGiven (columnCases ++ formCases ++ percentCases ++ textCases) ≡ true
-unfolding allGiven columnOf woven curveOf summaryNumbers summaryOf headNumbers
+unfolding allGiven columnOf woven curveOf summaryNumbers summaryOf headNumbers tailNumbers
 text-cases = refl

@@ -11,10 +11,11 @@ use Rattle.loads.specs.declared.Loaded.{Loaded}
 use Rattle.loads.specs.declared.Loaded.the-variants.{Peak, Empty, ShortList, BadWindow, NoSlot}
 use Rattle.loads.specs.Figures.{busyOf, figuresOf}
 use Rattle.loads.specs.Load.{endOf}
+use Rattle.pieces.specs.Decimal.{noNumber, numberOf}
 use Rattle.pieces.specs.Pieces.{bytesOf}
 use Rattle.words.specs.Words.{wordsRead}
-use Rattle.iebus_load.specs.declared.output.Wanted.{Wanted}
-use Rattle.iebus_load.specs.declared.output.Wanted.the-variants as wanted
+use Rattle.iebus_load.specs.declared.Wanted.{Wanted}
+use Rattle.iebus_load.specs.declared.Wanted.the-variants as wanted
 use Rattle.iebus_load.specs.declared.output.Message.{Message}
 use Rattle.iebus_load.specs.declared.output.Message.the-variants as message
 use Rattle.iebus_load.specs.declared.texts.Facts.{Facts}
@@ -57,7 +58,7 @@ wholeOf plot w input = wholeIn plot w (loadedOf w input) (slotsOf input)
 
 -- room for all of it, whatever the input: what stands before the curve, nine bytes for each slot, what stands behind it
 abbrev pub textBytes : ℕ
-textBytes = 992 + mostSlots * 9 + 303
+textBytes = 992 + mostSlots * 9 + 253
 
 -- what a text of so many bytes is given of it
 abbrev pub outputOf : Bool → ℕ → List ℕ → ℕ → List ℕ
@@ -83,7 +84,11 @@ pub record Made (plot : Bool) (w : ℕ) (input text : List ℕ) (count : ℕ) (s
   pub within : count ≤ length text
   pub fits : length (wholeOf plot w input) ≤ textBytes
 
--- what the second of so many arguments asks for, the program's own name counted: without it the summary
-unfoldable pub askedOf : ℕ → List ℕ → Wanted
-askedOf count argument =
-    pick (ltb count 3) wanted.Summary (pick (same argument (bytesOf "svg")) wanted.Plot wanted.Neither)
+-- what the arguments ask for, of which there are so many with the program's own name: the first is the window, and
+-- without a second the summary is meant
+unfoldable pub askedOf : ℕ → List ℕ → List ℕ → Wanted
+askedOf count window second =
+    pick (ltb (numberOf window) noNumber)
+    (pick (ltb count 3) (wanted.Summary (numberOf window))
+    (pick (same second (bytesOf "svg")) (wanted.Plot (numberOf window)) wanted.Neither))
+    wanted.Neither

@@ -1,6 +1,6 @@
 -- What is printed of a log: a summary, or a plot as SVG.
 use mathlib.Core.List.{List, [], _∷_, _++_}
-use Prim.Native.Nat.{ℕ, _+_, _*_, _/_}
+use Prim.Native.Nat.{ℕ, _+_, _-_, _*_, _/_}
 use Rattle.pieces.specs.Pieces.{bytesOf}
 use Rattle.iebus_load.specs.declared.texts.Facts.{Facts}
 use Rattle.iebus_load.specs.Forms.{woven}
@@ -29,7 +29,7 @@ summaryNumbers f =
 unfoldable pub summaryOf : Facts → List ℕ
 summaryOf f = woven summaryForm (summaryNumbers f)
 
--- ---- the plot: the figures over the slots, as high as the window is full, the largest in another colour
+-- ---- the plot: the figures over the slots, as high as the window is full, and a mark at the largest
 
 -- up to the beginning of the curve
 unfoldable pub headForm : List ℕ
@@ -75,20 +75,21 @@ unfoldable pub curveOf : List ℕ → List ℕ
 curveOf [] = []
 curveOf (f ∷ fs) = woven (bytesOf "V@h1\n") (f ∷ []) ++ curveOf fs
 
--- from its end on
+-- from its end on: a grid, and a line from the middle of the largest figure's slot up to that figure. The plot is 840
+-- wide and 280 high, and begins 70 from the left, 360 from the top
 unfoldable pub tailForm : List ℕ
 tailForm =
     bytesOf "V0z\"/>\n"
-    ++ bytesOf "<path fill=\"#a30\" stroke=\"#a30\" stroke-width=\"2\" vector-effect=\"non-scaling-stroke\" d=\"M@ "
-    ++ bytesOf "0V@h1V0z\"/>\n"
     ++ bytesOf "</g>\n"
     ++ bytesOf "</svg>\n"
     ++ bytesOf "<path fill=\"none\" stroke=\"#000\" stroke-opacity=\".2\" d=\"M70 80H910M70 150H910M70 220H910M70 "
     ++ bytesOf "290H910M70 360H910M70 80V360M280 80V360M490 80V360M700 80V360M910 80V360\"/>\n"
+    ++ bytesOf "<path stroke=\"#a30\" stroke-width=\"2\" d=\"M@ 360V@\"/>\n"
     ++ bytesOf "</svg>\n"
 
-abbrev pub tailNumbers : Facts → List ℕ
-tailNumbers f = f .place ∷ f .largest ∷ []
+unfoldable pub tailNumbers : Facts → List ℕ
+tailNumbers f =
+    (70 + (f .place * 2 + 1) * 420 / (quarterOf f * 4)) ∷ (360 - f .largest * 280 / f .window) ∷ []
 
 unfoldable pub plotOf : Facts → List ℕ → List ℕ
 plotOf f figures =

@@ -15,14 +15,17 @@ pub record Sized (f : Facts) : Type 0 where
   pub slots-small : f .slots ≤ mostSlots
   pub busy-small : f .busy ≤ mostSlots
   pub window-some : 0 < f .window
-  pub largest-small : f .largest ≤ mostSlots
+  pub window-small : f .window ≤ mostSlots
+  pub largest-small : f .largest ≤ f .window
+  pub place-small : f .place < mostSlots
 
 -- a largest figure and its place are those of a log that is read
 pub record OfLog (w : ℕ) (slots : List ℕ) (largest place : ℕ) : Type 0 where
   pub some : 0 < length slots
   pub few : length slots ≤ mostSlots
   pub window-some : 0 < w
-  pub largest-small : largest ≤ mostSlots
+  pub window-small : w ≤ mostSlots
+  pub largest-small : largest ≤ w
   pub place-small : place < mostSlots
 
 abbrev pub Told : ℕ → Loaded → List ℕ → Type 0

@@ -30,7 +30,7 @@ fn column(n: u32) -> [u8; 5]
     ]
 }
 
-fn number(numbers: &[u32], at: usize) -> u32
+fn number_at(numbers: &[u32], at: usize) -> u32
     ensures { λ r. ⌜ r ≡ getD (now (numbers .entry)) at 0 ⌝ }
 {
     if at < numbers.len() {
@@ -68,7 +68,7 @@ pub(crate) fn put_form(text: &mut [u8], at: usize, form: &[u8], numbers: &[u32])
     let mut i: usize = 0;
     while i < form.len() {
         let byte = form[i];
-        end = put_piece(text, end, byte, number(numbers, next));
+        end = put_piece(text, end, byte, number_at(numbers, next));
         next += count(byte);
         i += 1;
     }

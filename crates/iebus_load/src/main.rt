@@ -9,15 +9,14 @@
 ghost use mathlib.Core.Path.{_≡_};
 ghost use Prim.Native.Nat.{_≤_};
 ghost use lib.ListN.{length};
-ghost use Rattle.iebus_load.specs.Output.{Made, mostSlots, textBytes};
+ghost use Rattle.iebus_load.specs.Output.{Made, askedOf, mostSlots, textBytes};
 
 mod forms;
 mod output;
 mod texts;
 
 use crate::output::Message;
-use crate::output::Wanted;
-use crate::output::asked;
+use crate::output::is_svg;
 use crate::output::told;
 use crate::texts::put_loaded;
 use libc::STDERR_FILENO;
@@ -35,15 +34,39 @@ const MOST_SLOTS: usize = 65536;
 const INPUT_BYTES: usize = 262145;
 
 // Room for every plot: what stands before the curve, nine bytes for each slot, what stands behind it.
-const TEXT_BYTES: usize = 591119;
+const TEXT_BYTES: usize = 591069;
 
 // A number has at most five digits; a longer argument is none.
 const NUMBER_BYTES: usize = 5;
+
+// What is asked for: the summary or the plot, with a window, or neither.
+enum Wanted {
+    Summary(u32),
+    Plot(u32),
+    Neither,
+}
 
 // How long the text is, and what is said.
 struct Outcome {
     count: usize,
     message: Message,
+}
+
+// What the arguments ask for, of which there are so many with the program's own name.
+fn asked(count: usize, window: &[u8], second: &[u8]) -> Wanted
+    ensures { λ r. ⌜ r ≡ askedOf count (now (window .entry)) (now (second .entry)) ⌝ }
+{
+    let w = number(window);
+    if NO_NUMBER <= w {
+        return Wanted::Neither;
+    }
+    if count < 3 {
+        return Wanted::Summary(w);
+    }
+    if is_svg(second) {
+        return Wanted::Plot(w);
+    }
+    Wanted::Neither
 }
 
 // The same as `made`, with lists for the slots and the figures that are lent: their lengths are all that matters of
@@ -129,14 +152,10 @@ fn main() {
     let mut second = [0u8; 3];
     let digits = os::arg(1, &mut window);
     let letters = os::arg(2, &mut second);
-    let w = number(&window[..digits]);
-    if NO_NUMBER <= w {
-        explain();
-        return;
-    }
-    match asked(os::arg_count(), &second[..letters]) {
-        Wanted::Summary => show(false, w),
-        Wanted::Plot => show(true, w),
+    let wanted = asked(os::arg_count(), &window[..digits], &second[..letters]);
+    match wanted {
+        Wanted::Summary(w) => show(false, w),
+        Wanted::Plot(w) => show(true, w),
         Wanted::Neither => explain(),
     }
 }

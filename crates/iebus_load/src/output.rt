@@ -1,6 +1,8 @@
-// What is asked for, and what is said of a log.
+// What is said of a log, and the word for a plot.
 ghost use mathlib.Core.Path.{_≡_};
-ghost use Rattle.iebus_load.specs.Output.{askedOf, messageOf};
+ghost use Rattle.line.specs.Cases.{same};
+ghost use Rattle.pieces.specs.Pieces.{bytesOf};
+ghost use Rattle.iebus_load.specs.Output.{messageOf};
 use loads::Loaded;
 use words::WORD_BYTES;
 
@@ -11,12 +13,6 @@ pub(crate) enum Message {
     Empty,
     BadWindow,
     NoSlot,
-}
-
-pub(crate) enum Wanted {
-    Summary,
-    Plot,
-    Neither,
 }
 
 // The bytes of the slots that are read.
@@ -42,18 +38,11 @@ pub(crate) fn told(loaded: Loaded, bytes: usize) -> Message
     }
 }
 
-// What the second of so many arguments asks for, the program's own name counted.
-pub(crate) fn asked(count: usize, argument: &[u8]) -> Wanted
-    ensures { λ r. ⌜ r ≡ askedOf count (now (argument .entry)) ⌝ }
+pub(crate) fn is_svg(text: &[u8]) -> bool
+    ensures { λ r. ⌜ r ≡ same (now (text .entry)) (bytesOf "svg") ⌝ }
 {
-    if count < 3 {
-        return Wanted::Summary;
+    if text.len() != 3 {
+        return false;
     }
-    if argument.len() != 3 {
-        return Wanted::Neither;
-    }
-    if (argument[0] == b's') & (argument[1] == b'v') & (argument[2] == b'g') {
-        return Wanted::Plot;
-    }
-    Wanted::Neither
+    (text[0] == b's') & (text[1] == b'v') & (text[2] == b'g')
 }

@@ -3,7 +3,7 @@ ghost use mathlib.Core.Path.{_≡_};
 ghost use Prim.Native.Nat.{_<_, _≤_};
 ghost use Rattle.pieces.specs.Pieces.{Put};
 ghost use Rattle.iebus_load.specs.Forms.{woven};
-ghost use Rattle.iebus_load.specs.Output.{factsOf, textOf};
+ghost use Rattle.iebus_load.specs.Output.{factsOf, mostSlots, textOf};
 ghost use Rattle.iebus_load.specs.Texts.{curveOf, headForm, headNumbers, percentOf, summaryNumbers, summaryOf};
 ghost use Rattle.iebus_load.specs.Texts.{plotOf, tailForm, tailNumbers};
 ghost use Rattle.iebus_load.specs.Writing.{OfLog, Sized, Told, wholeBy};
@@ -22,7 +22,7 @@ pub(crate) struct Facts {
 }
 
 fn percent(part: u32, whole: u32) -> u32
-    requires { ⌜ (part ≤ 65536) × (0 < whole) ⌝ }
+    requires { ⌜ (part ≤ mostSlots) × (0 < whole) ⌝ }
     ensures { λ r. ⌜ r ≡ percentOf part whole ⌝ }
 {
     part * 100 / whole
@@ -125,18 +125,30 @@ fn put_curve(text: &mut [u8], at: usize, figures: &[u32]) -> usize
     end
 }
 
+// Where the mark of the largest figure stands, and how far up it goes.
+fn tail_numbers(f: Facts) -> [u32; 2]
+    requires { ⌜ Sized f ⌝ }
+    ensures { λ r. ⌜ r ≡ tailNumbers f ⌝ }
+{
+    let slots = (f.slots + 3) / 4 * 4;
+    [
+        70 + (f.place * 2 + 1) * 420 / slots,
+        360 - f.largest * 280 / f.window,
+    ]
+}
+
 fn put_tail(text: &mut [u8], at: usize, f: Facts) -> usize
+    requires { ⌜ Sized f ⌝ }
     ensures { λ r. ⌜ Put (now (text .entry)) at (woven tailForm (tailNumbers f)) r (now (text .exit)) ⌝ }
 {
     let form: &[u8] = b"V0z\"/>\n\
-        <path fill=\"#a30\" stroke=\"#a30\" stroke-width=\"2\" vector-effect=\"non-scaling-stroke\" d=\"M@ \
-        0V@h1V0z\"/>\n\
         </g>\n\
         </svg>\n\
         <path fill=\"none\" stroke=\"#000\" stroke-opacity=\".2\" d=\"M70 80H910M70 150H910M70 220H910M70 \
         290H910M70 360H910M70 80V360M280 80V360M490 80V360M700 80V360M910 80V360\"/>\n\
+        <path stroke=\"#a30\" stroke-width=\"2\" d=\"M@ 360V@\"/>\n\
         </svg>\n";
-    put_form(text, at, form, &[f.place, f.largest])
+    put_form(text, at, form, &tail_numbers(f))
 }
 
 fn put_plot(text: &mut [u8], f: Facts, figures: &[u32]) -> usize

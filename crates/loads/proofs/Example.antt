@@ -1,11 +1,11 @@
--- The premises of what a planner relies on are met: a log of six slots and a window of three.
+-- The premises of what a planner relies on are met: a log of six slots and a window of three, or one that is refused.
 use mathlib.Core.List.{List, [], _∷_}
 use mathlib.Core.Path.{_≡_, refl}
 use Prim.Native.Nat.{ℕ, zero, suc}
 use native.Mathlib.Omega.{arith}
 use lib.ListN.{getD}
 use Rattle.line.specs.Places.{firstPlace, placed}
-use Rattle.loads.specs.declared.Loaded.the-variants.{Peak}
+use Rattle.loads.specs.declared.Loaded.the-variants.{Peak, BadWindow, NoSlot}
 use Rattle.loads.specs.Figures.{busyOf, figuresOf, largestOf}
 use Rattle.loads.specs.Load.{endOf}
 use Rattle.loads.specs.Relied.{AllSlots, Right}
@@ -46,3 +46,12 @@ window-full = relied 3 .full (3 ∷ 2 ∷ []) (0 ∷ 3 ∷ 1 ∷ []) (3 ∷ []) 
 pub window-begun : getD (figuresOf 3 log) 1 0 ≡ 1
 unfolding busyOf
 window-begun = relied 3 .begun (3 ∷ 2 ∷ []) (0 ∷ 3 ∷ 1 ∷ 3 ∷ []) 1 (omega arith) refl
+
+-- a window that is too wide, and a word that is no slot word
+pub too-wide : endOf 4097 7 log ≡ BadWindow
+too-wide = relied 4097 .bad-window 7 log (omega arith) (λ r. absurd (omega (arith, r .small)))
+
+pub stray-last : endOf 3 2 (3 ∷ 4 ∷ []) ≡ NoSlot
+stray-last =
+    relied 3 .no-slot 2 (3 ∷ 4 ∷ []) (omega arith) (nothing-wrong .window)
+    (λ all. absurd (omega (arith, all 1 (omega arith))))

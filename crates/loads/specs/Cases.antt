@@ -39,7 +39,8 @@ abbrev answer : ℕ → ℕ → List ℕ → List ℕ
 answer w room slots =
     numberOf (endOf w room slots) ∷ largestAfter (endOf w room slots) 77 ∷ placeAfter (endOf w room slots) 88 ∷ []
 
--- the largest is reached once, twice with the first place told, at the first place, at the last, and by idles alone
+-- the largest is reached once, twice with the first place told, at the first place, at the last, and by idles alone; an
+-- empty log has none
 abbrev peakCases : List Case
 peakCases =
     (answer 3 8 log gives 0 ∷ 3 ∷ 3 ∷ [])

@@ -24,9 +24,9 @@ use Rattle.meter.proofs.Counting.{count-most, count-none, count-step}
 
 -- ---- strays: a word that is no slot word, among some
 
-pub none-stray : strayIn [] ≡ false
+pub no-stray : strayIn [] ≡ false
 unfolding strayIn
-none-stray = refl
+no-stray = refl
 
 pub one-stray : (w : ℕ) (ws : List ℕ) → strayIn (w ∷ ws) ≡ (ltb slotIdle w || strayIn ws)
 unfolding strayIn

@@ -5,6 +5,7 @@ ghost use mathlib.Core.Path.{_≡_};
 ghost use mathlib.Core.List.{_++_};
 ghost use Prim.Native.Nat.{_<_, _≤_};
 ghost use lib.ListN.{drop, length};
+ghost use Rattle.line.specs.Numbers.{mostWindow};
 ghost use Rattle.logs.specs.Frames.{strayIn};
 ghost use Rattle.loads.specs.Figures.{badWindow, busy, busyOf, figuresOf, largestOf, placeOf};
 ghost use Rattle.loads.specs.Load.{Loads};
@@ -86,7 +87,7 @@ fn higher(most: Most, figure: u32, place: usize) -> Most
 }
 
 fn put_figures(w: usize, slots: &[u32], figures: &mut [u32]) -> Most
-    requires { ⌜ (0 < w) × (w ≤ 4096) × (length (now slots) ≤ length (now figures)) ⌝ }
+    requires { ⌜ (0 < w) × (w ≤ mostWindow) × (length (now slots) ≤ length (now figures)) ⌝ }
     ensures { λ _. ⌜
         now (figures .exit) ≡ figuresOf w (now (slots .entry))
         ++ drop (length (now (slots .entry))) (now (figures .entry)) ⌝ }

@@ -8,10 +8,10 @@ use Rattle.iebus_load.proofs.show.Statement.{statement}
 use Rattle.iebus_load.proofs.show.Tie as tie
 
 -- the array that is lent has room for every plot
-room : textBytes ≤ length (replicate {A = ℕ} 591119 0)
+room : textBytes ≤ length (replicate {A = ℕ} 591069 0)
 room =
-    let fits : 591119 ≤ 591119 = omega arith in
-    subst (λ (n : ℕ). textBytes ≤ n) (sym (length-replicate {0} {A = ℕ} 591119 0)) fits
+    let fits : 591069 ≤ 591069 = omega arith in
+    subst (λ (n : ℕ). textBytes ≤ n) (sym (length-replicate {0} {A = ℕ} 591069 0)) fits
 
 pub show-spec : {M : Type 1} → statement M
 show-spec =
@@ -21,6 +21,6 @@ show-spec =
     (λ c κs. search needs)
     (λ c. search needs)
     (λ c. search needs)
-    (λ c. sym (length-replicate {0} {A = ℕ} 591119 0))
+    (λ c. sym (length-replicate {0} {A = ℕ} 591069 0))
     (λ c κs. room)
     (λ c. search needs))

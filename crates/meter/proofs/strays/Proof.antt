@@ -6,7 +6,7 @@ use lib.ListN.{length}
 use Rattle.line.proofs.Looked.{Looked, looked-all, looked-none, looked-one}
 use Rattle.line.specs.Numbers.{slotIdle}
 use Rattle.logs.specs.Frames.{strayIn}
-use Rattle.meter.proofs.Loops.{none-stray, one-stray}
+use Rattle.meter.proofs.Loops.{no-stray, one-stray}
 use Rattle.meter.proofs.strays.Statement.{statement}
 use Rattle.meter.proofs.strays.Tie as tie
 
@@ -28,4 +28,4 @@ strays-spec =
     (λ c. search needs)
     (λ c. search needs)
     (λ c. looked-one (ltb slotIdle) _ one-stray (c .before .before .loop .inv) (c .before .loop-test .taken) refl)
-    (λ c. looked-all none-stray (c .before .loop .inv) (c .loop-test .left)))
+    (λ c. looked-all no-stray (c .before .loop .inv) (c .loop-test .left)))

@@ -34,7 +34,7 @@ put-form-spec =
     let now = put .before .before .before .before .before in (
       c .before .before .text .given ∙ now .loop .inv .0,
       woven-more (now .loop .inv .1) (put .before .before .before .before .loop-test .taken)
-          (put .before .number .ensures) (put .put-piece .ensures) (c .count .ensures),
+          (put .before .number-at .ensures) (put .put-piece .ensures) (c .count .ensures),
     ))
     (λ c. search needs)
     (λ c. woven-all (c .before .loop .inv .1) (c .loop-test .left)))

@@ -1,11 +1,11 @@
 use borrow.Author.Needs.{needs}
 use mathlib.Core.Path.{sym}
 use lib.ListN.{List·getD-eq-default}
-use Rattle.iebus_load.proofs.forms.number.Statement.{statement}
-use Rattle.iebus_load.proofs.forms.number.Tie as tie
+use Rattle.iebus_load.proofs.forms.number_at.Statement.{statement}
+use Rattle.iebus_load.proofs.forms.number_at.Tie as tie
 
-pub number-spec : {M : Type 1} → statement M
-number-spec =
+pub number-at-spec : {M : Type 1} → statement M
+number-at-spec =
     tie.close
     (tie.spec
     (λ c. search needs)
