@@ -1,6 +1,6 @@
--- What a planner relies on, of every window and every log: how a call ends, and each figure, told in the words of ticket
--- 14 and by lists that are cut where the window begins and ends, so that a definition that says something else is
--- refused. What is written, and what a host in C is told, are told once, in `Load.antt`.
+-- What a planner relies on, of every window and every log: how a call ends, and each figure, told in the words of
+-- ticket 14 and by lists that are cut where the window begins and ends, so that a definition that says something else
+-- is refused. What is written, and what a host in C is told, are told once, in `Load.antt`.
 use mathlib.Core.List.{List, [], _∷_, _++_}
 use mathlib.Core.Path.{_≡_}
 use Prim.Native.Nat.{ℕ, _+_, _<_, _≤_}
