@@ -16,8 +16,8 @@ use Rattle.loads.specs.Load.{Loads, endOf, writtenOf}
 use Rattle.words.proofs.Words.{read-count, read-front}
 use Rattle.words.specs.Words.{wordsOf}
 use Rattle.iebus_load.specs.Output.{factsOf, loadedOf, mostSlots, slotsOf, textBytes, textOf}
-use Rattle.iebus_load.specs.Output.{wholeIn, wholeOf}
-use Rattle.iebus_load.specs.Writing.{OfLog, Sized, Told, wholeBy}
+use Rattle.iebus_load.specs.Output.{wholeBy, wholeOf}
+use Rattle.iebus_load.specs.Writing.{OfLog, Sized, Told}
 use Rattle.iebus_load.proofs.Curve.{text-fits}
 
 -- the slots that a list of so many places takes
@@ -78,8 +78,9 @@ figures-there w slots rest after {count} counted is =
     ap (take (count - 0)) is ∙ take-at (figuresOf w slots) rest (count - 0) (omega (arith, many, counted))
 
 written-by : (plot : Bool) (w : ℕ) (r : Loaded) (slots rest after : List ℕ) {count : ℕ} → count ≡ length slots
-    → after ≡ writtenOf w r slots ++ rest → wholeBy plot w r slots (take (count - 0) after) ≡ wholeIn plot w r slots
-unfolding wholeBy wholeIn writtenOf
+    → after ≡ writtenOf w r slots ++ rest
+    → wholeBy plot w r slots (take (count - 0) after) ≡ wholeBy plot w r slots (figuresOf w slots)
+unfolding wholeBy writtenOf
 written-by plot w (Peak largest place) slots rest after counted is =
     ap (textOf plot (factsOf w slots largest place)) (figures-there w slots rest after counted is)
 written-by plot w Empty slots rest after counted is = refl
@@ -94,11 +95,12 @@ pub whole-made : (plot : Bool) (input : List ℕ) {w : ℕ} {slots before after 
 whole-made plot input {w} {slots} {before} {after} {loaded} {count} is room l counted =
     let rest : List ℕ = drop (length (writtenOf w loaded slots)) before in
     written-by plot w loaded slots rest after (counted ∙ ap length (sym is)) (l .written)
-    ∙ ap (wholeIn plot w loaded) is ∙ ap (λ (r : Loaded). wholeIn plot w r (slotsOf input)) (loaded-is input is room l)
+    ∙ ap (λ (k : List ℕ). wholeBy plot w loaded k (figuresOf w k)) is
+    ∙ ap (λ (r : Loaded). wholeBy plot w r (slotsOf input) (figuresOf w (slotsOf input))) (loaded-is input is room l)
 
 fits-in : (plot : Bool) (w : ℕ) (r : Loaded) (slots : List ℕ) → length slots ≤ mostSlots
-    → length (wholeIn plot w r slots) ≤ textBytes
-unfolding wholeIn
+    → length (wholeBy plot w r slots (figuresOf w slots)) ≤ textBytes
+unfolding wholeBy
 fits-in plot w (Peak largest place) slots few =
     text-fits plot (factsOf w slots largest place) (figuresOf w slots)
     (omega (arith, placed-length (figureAt w slots) (length slots), few))

@@ -44,17 +44,17 @@ factsOf w slots largest place = record {
 abbrev pub textOf : Bool → Facts → List ℕ → List ℕ
 textOf plot f figures = pick plot (plotOf f figures) (summaryOf f)
 
--- nothing is written where there is no figure
-unfoldable pub wholeIn : Bool → ℕ → Loaded → List ℕ → List ℕ
-wholeIn plot w (Peak largest place) slots = textOf plot (factsOf w slots largest place) (figuresOf w slots)
-wholeIn plot w Empty slots = []
-wholeIn plot w ShortList slots = []
-wholeIn plot w BadWindow slots = []
-wholeIn plot w NoSlot slots = []
+-- what is written of slots with these figures, which ended so: nothing where there is no figure
+unfoldable pub wholeBy : Bool → ℕ → Loaded → List ℕ → List ℕ → List ℕ
+wholeBy plot w (Peak largest place) slots figures = textOf plot (factsOf w slots largest place) figures
+wholeBy plot w Empty slots figures = []
+wholeBy plot w ShortList slots figures = []
+wholeBy plot w BadWindow slots figures = []
+wholeBy plot w NoSlot slots figures = []
 
 -- all that is written
 abbrev pub wholeOf : Bool → ℕ → List ℕ → List ℕ
-wholeOf plot w input = wholeIn plot w (loadedOf w input) (slotsOf input)
+wholeOf plot w input = wholeBy plot w (loadedOf w input) (slotsOf input) (figuresOf w (slotsOf input))
 
 -- room for all of it, whatever the input: what stands before the curve, nine bytes for each slot, what stands behind it
 abbrev pub textBytes : ℕ

@@ -1,13 +1,12 @@
 -- What private functions cite: what is told of a log.
-use mathlib.Core.Bool.{Bool}
-use mathlib.Core.List.{List, []}
+use mathlib.Core.List.{List}
 use mathlib.Core.Path.{_≡_}
 use Prim.Native.Nat.{ℕ, _<_, _≤_}
 use lib.ListN.{length}
 use Rattle.loads.specs.declared.Loaded.{Loaded}
-use Rattle.loads.specs.declared.Loaded.the-variants.{Peak, Empty, ShortList, BadWindow, NoSlot}
+use Rattle.loads.specs.declared.Loaded.the-variants.{Peak}
 use Rattle.iebus_load.specs.declared.texts.Facts.{Facts}
-use Rattle.iebus_load.specs.Output.{factsOf, mostSlots, textOf}
+use Rattle.iebus_load.specs.Output.{mostSlots}
 
 -- numbers of which percentages can be made
 pub record Sized (f : Facts) : Type 0 where
@@ -30,11 +29,3 @@ pub record OfLog (w : ℕ) (slots : List ℕ) (largest place : ℕ) : Type 0 whe
 
 abbrev pub Told : ℕ → Loaded → List ℕ → Type 0
 Told w loaded slots = (largest place : ℕ) → loaded ≡ Peak largest place → OfLog w slots largest place
-
--- what is written where the figures ended so
-unfoldable pub wholeBy : Bool → ℕ → Loaded → List ℕ → List ℕ → List ℕ
-wholeBy plot w (Peak largest place) slots figures = textOf plot (factsOf w slots largest place) figures
-wholeBy plot w Empty slots figures = []
-wholeBy plot w ShortList slots figures = []
-wholeBy plot w BadWindow slots figures = []
-wholeBy plot w NoSlot slots figures = []

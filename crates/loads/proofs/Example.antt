@@ -40,7 +40,7 @@ peak-first = relied 3 .given 7 log nothing-wrong
 -- after the fifth slot the window has the third, fourth and fifth
 pub window-full : getD (figuresOf 3 log) 4 0 ≡ 2
 unfolding busyOf
-window-full = relied 3 .full (3 ∷ 2 ∷ []) (0 ∷ 3 ∷ 1 ∷ []) (3 ∷ []) 4 refl (omega arith) refl
+window-full = relied 3 .full (3 ∷ 2 ∷ []) (0 ∷ 3 ∷ 1 ∷ []) (3 ∷ []) 4 refl refl
 
 -- after the second there are but two
 pub window-begun : getD (figuresOf 3 log) 1 0 ≡ 1

@@ -111,10 +111,10 @@ taken w room slots largest place e =
 
 -- ---- each place
 
-full-at : (w : ℕ) (before window after : List ℕ) (place : ℕ) → length window ≡ w → 0 < w
+full-at : (w : ℕ) (before window after : List ℕ) (place : ℕ) → length window ≡ w
     → place + 1 ≡ length before + length window
     → getD (figuresOf w (before ++ window ++ after)) place 0 ≡ busyOf window
-full-at w before window after place wide some at =
+full-at w before window after place wide at =
     let inside : place < length (before ++ window ++ after) =
     omega (arith, at, length-append (before ++ window) after, length-append before window)
     in

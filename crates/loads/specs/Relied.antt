@@ -49,7 +49,7 @@ pub record Relied (w : ℕ) : Type 0 where
   -- "after every slot"
   pub as-many : (slots : List ℕ) → length (figuresOf w slots) ≡ length slots
   -- "among the latest w": whatever came before these and comes after them
-  pub full : (before window after : List ℕ) (place : ℕ) → length window ≡ w → 0 < w
+  pub full : (before window after : List ℕ) (place : ℕ) → length window ≡ w
       → place + 1 ≡ length before + length window
       → getD (figuresOf w (before ++ window ++ after)) place 0 ≡ busyOf window
   -- "Before w slots have come, count those there are"

@@ -1,8 +1,7 @@
 use borrow.Author.Needs.{needs}
 use mathlib.Core.Path.{_∙_, ap}
 use Rattle.pieces.proofs.Pieces.{named, nothing}
-use Rattle.iebus_load.specs.Output.{textOf}
-use Rattle.iebus_load.specs.Writing.{wholeBy}
+use Rattle.iebus_load.specs.Output.{textOf, wholeBy}
 use Rattle.iebus_load.specs.declared.texts.Facts.{Facts}
 use Rattle.iebus_load.proofs.Inputs.{sized}
 use Rattle.iebus_load.proofs.texts.put_loaded.Statement.{statement}
