@@ -14,6 +14,7 @@ pub enum Slot {
 }
 
 // The slot that a word says. A word with any bit set above bits 1-0 is none, so a word of another kind is none too.
+#[tactic(auto, unfolding(crate::specs::Slot::slot_of))]
 pub fn slot_of(word: u32) -> Slot
     ensures { result ≡ slot_of word }
 {
