@@ -1,5 +1,7 @@
 // The contenders of a contest, and how it ends, by value. What a contest comes to is said by definitions over these
 // (`specs/`); `contest` is the code that decides it. No function has a `requires`, and nothing is assumed.
+#![tactic(auto)]
+
 ghost use Rattle.std.specs.Prelude.{◌≡◌};
 ghost use Rattle.contenders.specs.Contest.{no_contenders, verdict_of, with_contender};
 
@@ -10,14 +12,14 @@ use line::numbers::{
 
 // A master's broadcast bit (0 is broadcast) and its address.
 #[repr(C)]
-#[derive(Drop)]
+#[derive(Clone, Copy)]
 pub struct Contender {
     pub bit: u8,
     pub address: u16,
 }
 
 // How many contenders there are, and the first 50 of them. What stands past the count is of no account.
-#[derive(Drop)]
+#[derive(Clone, Copy)]
 pub struct Contenders {
     pub count: usize,
     pub list: [Contender; MOST_CONTENDERS],
@@ -25,7 +27,7 @@ pub struct Contenders {
 
 // How a contest ends: with the winner's place, or refused. A place out of range is the first; one alike is the lowest
 // whose contender occurs again later.
-#[derive(Drop)]
+#[derive(Clone, Copy)]
 pub enum Outcome {
     Winner(usize),
     ShortList,
@@ -36,7 +38,7 @@ pub enum Outcome {
 
 // What document 01 says for an outcome: the refusal's number, 0 where there is none, and the place named, 0 where
 // none is.
-#[derive(Drop)]
+#[derive(Clone, Copy)]
 pub struct Verdict {
     pub number: u8,
     pub place: usize,

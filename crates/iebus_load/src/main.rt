@@ -33,7 +33,7 @@ const TEXT_BYTES: usize = 591069;
 const NUMBER_BYTES: usize = 5;
 
 // What is asked for: the summary or the plot, with a window, or neither.
-#[derive(Drop)]
+#[derive(Clone, Copy)]
 enum Wanted {
     Summary(u32),
     Plot(u32),
@@ -41,7 +41,7 @@ enum Wanted {
 }
 
 // How long the text is, and what is said.
-#[derive(Drop)]
+#[derive(Clone, Copy)]
 struct Outcome {
     count: usize,
     message: Message,

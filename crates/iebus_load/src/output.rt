@@ -7,7 +7,7 @@ ghost use Rattle.iebus_load.specs.Output.{message_of};
 use loads::Loaded;
 use words::WORD_BYTES;
 
-#[derive(Drop)]
+#[derive(Clone, Copy)]
 pub(crate) enum Message {
     Nothing,
     Short,

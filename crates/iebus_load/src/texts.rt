@@ -13,7 +13,7 @@ use meter::busy_of;
 
 // What is told of a log beside its figures: its slots, those of them not idle, the window, the largest figure and the
 // first place where it was reached.
-#[derive(Drop)]
+#[derive(Clone, Copy)]
 pub(crate) struct Facts {
     slots: u32,
     busy: u32,

@@ -5,13 +5,13 @@ ghost use Rattle.iebus_slots.specs.Arguments.{range_of, setting_of};
 use pieces::NO_NUMBER;
 use pulses::{Range, Setting};
 
-#[derive(Drop)]
+#[derive(Clone, Copy)]
 pub(crate) enum RangeAsked {
     Given(Range),
     Missing,
 }
 
-#[derive(Drop)]
+#[derive(Clone, Copy)]
 pub(crate) enum Asked {
     Given(Setting),
     Missing,

@@ -34,7 +34,7 @@ const SLOT_BYTES: usize = 65536;
 const ARGUMENT_BYTES: usize = 5;
 
 // How many bytes of slots there are, and what is said.
-#[derive(Drop)]
+#[derive(Clone, Copy)]
 struct Outcome {
     count: usize,
     message: Message,

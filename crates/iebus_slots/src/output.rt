@@ -5,7 +5,7 @@ ghost use Rattle.iebus_slots.specs.Output.{given_of, message_of};
 use pulses::Measured;
 use words::WORD_BYTES;
 
-#[derive(Drop)]
+#[derive(Clone, Copy)]
 pub(crate) enum Message {
     Nothing,
     Short,

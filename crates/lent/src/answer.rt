@@ -5,7 +5,7 @@ ghost use Rattle.lent.specs.Both.{answer_to};
 use rules::answer::{Answer, Reply};
 
 // What a word came to: its answer, but for what the unit drives next.
-#[derive(Drop)]
+#[derive(Clone, Copy)]
 pub(crate) enum Outcome {
     Taken,
     Written,

@@ -18,7 +18,7 @@ use rules::state::{Acted, Core, Seen};
 use slots::on_slot;
 
 // All of a unit but the bytes of its buffers, which are lent.
-#[derive(Drop)]
+#[derive(Clone, Copy)]
 pub struct Lent {
     pub core: Core,
     pub tbf: Span,
@@ -26,14 +26,14 @@ pub struct Lent {
 }
 
 // What a step hands back where the buffers are lent: they are changed in place.
-#[derive(Drop)]
+#[derive(Clone, Copy)]
 pub struct Answered {
     pub lent: Lent,
     pub answer: Answer,
 }
 
 // What a word leaves of a unit whose buffers are lent, and what it came to.
-#[derive(Drop)]
+#[derive(Clone, Copy)]
 pub(crate) struct Done {
     pub lent: Lent,
     pub outcome: Outcome,

@@ -5,7 +5,7 @@ ghost use Rattle.line.specs.Slot.{slot_of};
 use crate::numbers::{SLOT_HIGH, SLOT_IDLE, SLOT_LOW, SLOT_START};
 
 // A slot of the line: a settled level (false is 0), start or idle; or no slot, because of a stray bit.
-#[derive(Drop)]
+#[derive(Clone, Copy)]
 pub enum Slot {
     Level(bool),
     Start,

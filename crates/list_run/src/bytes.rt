@@ -15,7 +15,7 @@ use unit::step::Unit;
 const WORD_BYTES: usize = 4;
 
 // A unit after a run over bytes, and the number of the refusal, or 0.
-#[derive(Drop)]
+#[derive(Clone, Copy)]
 pub struct RanBytes {
     pub unit: Unit,
     pub number: u32,

@@ -12,13 +12,13 @@ use unit::buffers::{Rbf, Tbf};
 use unit::step::Unit;
 
 // How a run ends: every word has its answer, or the answer list is shorter than the word list.
-#[derive(Drop)]
+#[derive(Clone, Copy)]
 pub enum Outcome {
     Ran,
     ShortList,
 }
 
-#[derive(Drop)]
+#[derive(Clone, Copy)]
 pub struct Finished {
     pub unit: Unit,
     pub outcome: Outcome,

@@ -3,7 +3,9 @@
 // user relies on (`proofs/`). There is no code here: `reader` is the code.
 
 // How the reading of a log ends: with the number of its frames, or refused.
-#[derive(Drop)]
+#![tactic(auto)]
+
+#[derive(Clone, Copy)]
 pub enum LogRead {
     Frames(usize),
     ShortList,

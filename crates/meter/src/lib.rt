@@ -13,7 +13,7 @@ use line::numbers::{MOST_WINDOW, SLOT_IDLE};
 use loads::Loaded;
 
 // The largest figure so far, and the first place where it was reached.
-#[derive(Drop)]
+#[derive(Clone, Copy)]
 struct Most {
     largest: u32,
     place: usize,

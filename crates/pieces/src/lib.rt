@@ -1,5 +1,7 @@
 // What programs share: writing into a text that is lent, one piece behind the other, as far as there is room; and
 // reading a decimal number. No public function has a `requires`, and nothing is assumed.
+#![tactic(auto)]
+
 ghost use Rattle.std.specs.Prelude.{◌≡◌, ◌-◌, ◌≤◌, min};
 ghost use Rattle.pieces.specs.Decimal.{grown, no_number, number_of};
 ghost use Rattle.pieces.specs.Pieces.{Put};
@@ -39,6 +41,7 @@ pub fn put(text: &mut [u8], at: usize, piece: &[u8]) -> usize
     at + count
 }
 
+#[tactic(auto, unfolding(crate::specs::Decimal::grown))]
 fn grown(n: u32, byte: u8) -> u32
     requires { n ≤ no_number }
     ensures { (result ≡ grown n byte) × (result ≤ no_number) }

@@ -3,7 +3,9 @@
 // and `frame` are the code, each function of it equal to what the rules give.
 
 // The fields of a frame, in their order.
-#[derive(Drop)]
+#![tactic(auto)]
+
+#[derive(Clone, Copy)]
 pub enum Field {
     Broadcast,
     Master,
@@ -15,20 +17,20 @@ pub enum Field {
 
 // "A unit's place in a frame is a field with its count, or waiting for a start." The count goes over the field's bits,
 // then P and, from the slave address on, A.
-#[derive(Drop)]
+#[derive(Clone, Copy)]
 pub enum Place {
     Waiting,
     In(Field, u8),
 }
 
 // The place, held by itself.
-#[derive(Drop)]
+#[derive(Clone, Copy)]
 pub struct Spot {
     pub place: Place,
 }
 
 // The frame under way. While the place is waiting, nothing else of it is read, and a start slot builds it afresh.
-#[derive(Drop)]
+#[derive(Clone, Copy)]
 pub struct Frame {
     pub spot: Spot,
     // the bits of the field so far
@@ -57,7 +59,7 @@ pub struct Frame {
 
 // What a frame sees of its unit: its address; broadcast bit (as on the wire), slave address and control of its request
 // as master; and what a slave's judgements rest on.
-#[derive(Drop)]
+#[derive(Clone, Copy)]
 pub struct View {
     pub own: u16,
     pub bit: bool,
@@ -71,7 +73,7 @@ pub struct View {
 }
 
 // What a slot brings about, for the unit to act on.
-#[derive(Drop)]
+#[derive(Clone, Copy)]
 pub enum Event {
     Nothing,
     // the contest is lost; the unit goes on as a receiver
@@ -92,14 +94,14 @@ pub enum Event {
     Aborted,
 }
 
-#[derive(Drop)]
+#[derive(Clone, Copy)]
 pub struct Moved {
     pub frame: Frame,
     pub event: Event,
 }
 
 // What a control comes to for a slave: NAK, or the direction of what follows.
-#[derive(Drop)]
+#[derive(Clone, Copy)]
 pub enum Judged {
     Nak,
     Sends,

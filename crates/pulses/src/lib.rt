@@ -3,14 +3,16 @@
 // on (`proofs/`). There is no code here: `capture` is the code.
 
 // A closed range of widths, in ticks.
-#[derive(Drop)]
+#![tactic(auto)]
+
+#[derive(Clone, Copy)]
 pub struct Range {
     pub least: u16,
     pub most: u16,
 }
 
 // The widths of each symbol.
-#[derive(Drop)]
+#[derive(Clone, Copy)]
 pub struct Setting {
     pub zero: Range,
     pub one: Range,
@@ -18,7 +20,7 @@ pub struct Setting {
 }
 
 // How the conversion of a list of pulses ends: with a slot for each, or refused.
-#[derive(Drop)]
+#[derive(Clone, Copy)]
 pub enum Measured {
     Given,
     ShortList,

@@ -8,7 +8,7 @@ use crate::words::{ACKED_NUMBERS, ACKED_WEIGHT};
 // A frame whose bytes have been written: how many fields are given, what its record's first word says of them, of the
 // number of ACKed bytes and of the attempts after these, its second word, 0 where there is none, and where its bytes
 // stand in the records. So few numbers are cheap to hand on to the next frame and to compare.
-#[derive(Drop)]
+#[derive(Clone, Copy)]
 pub struct Entry {
     pub given: u32,
     pub said: u32,

@@ -14,7 +14,7 @@ use line::numbers::{
 // How many of the five fields are given, then their values as a record's words hold them, 0 for one that is not given:
 // broadcast bit, control and length as in its first word, master and slave as in its second; and how the frame ended,
 // as far as its header tells.
-#[derive(Drop)]
+#[derive(Clone, Copy)]
 pub struct Head {
     pub given: u32,
     pub fields: u32,

@@ -15,7 +15,7 @@ pub(crate) const DATA_PLACE: usize = 44;
 const ATTEMPT_SLOTS: usize = 10;
 
 // How many bytes were ACKed, the complete attempts after the last of them, and how the frame ended.
-#[derive(Drop)]
+#[derive(Clone, Copy)]
 pub struct Body {
     pub acked: usize,
     pub unacked: u32,

@@ -2,7 +2,7 @@
 use place::Frame;
 
 // The registers, flags and codes, and the lock: what lasts, without the buffers.
-#[derive(Drop)]
+#[derive(Clone, Copy)]
 pub struct Registers {
     // UAR: own address, sending enabled, mode 1
     pub own: u16,
@@ -33,7 +33,7 @@ pub struct Registers {
 }
 
 // All of the unit but its buffers: what lasts, the frame under way, and whether the latest slot was idle.
-#[derive(Drop)]
+#[derive(Clone, Copy)]
 pub struct Core {
     pub regs: Registers,
     pub frame: Frame,
@@ -41,7 +41,7 @@ pub struct Core {
 }
 
 // What a slot rests on of the buffers: how many bytes wait in TBF, the next of them, and whether RBF is empty.
-#[derive(Drop)]
+#[derive(Clone, Copy)]
 pub struct Seen {
     pub waiting: usize,
     pub front: u8,
@@ -49,7 +49,7 @@ pub struct Seen {
 }
 
 // What a slot does to the buffers.
-#[derive(Drop)]
+#[derive(Clone, Copy)]
 pub enum Act {
     Nothing,
     // the next byte leaves TBF
@@ -62,7 +62,7 @@ pub enum Act {
     Byte(u8),
 }
 
-#[derive(Drop)]
+#[derive(Clone, Copy)]
 pub struct Acted {
     pub core: Core,
     pub act: Act,

@@ -7,7 +7,7 @@ use words::WORD_BYTES;
 // Every word that is read is listed, up to this many bytes of input: 4,096 words.
 pub const MOST_BYTES: usize = 16384;
 
-#[derive(Drop)]
+#[derive(Clone, Copy)]
 pub enum Last {
     Nothing,
     Short,

@@ -6,14 +6,14 @@ use circles::Span;
 use line::numbers::{RBF_BYTES, TBF_BYTES};
 
 // "TBF, 33 bytes".
-#[derive(Drop)]
+#[derive(Clone, Copy)]
 pub struct Tbf {
     pub bytes: [u8; TBF_BYTES],
     pub span: Span,
 }
 
 // "RBF, 40 bytes".
-#[derive(Drop)]
+#[derive(Clone, Copy)]
 pub struct Rbf {
     pub bytes: [u8; RBF_BYTES],
     pub span: Span,

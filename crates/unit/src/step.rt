@@ -15,7 +15,7 @@ use rules::answer::Answer;
 use rules::state::Core;
 
 // A unit that holds its buffers.
-#[derive(Drop)]
+#[derive(Clone, Copy)]
 pub struct Unit {
     pub core: Core,
     pub tbf: Tbf,
@@ -23,7 +23,7 @@ pub struct Unit {
 }
 
 // What a step hands back.
-#[derive(Drop)]
+#[derive(Clone, Copy)]
 pub struct Stepped {
     pub unit: Unit,
     pub answer: Answer,

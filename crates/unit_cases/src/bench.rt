@@ -28,7 +28,7 @@ const RBF_READ: u32 = 0x2E00_0000;
 // The bits of an answer that say its kind and its value.
 const KIND_AND_VALUE: u32 = 0xF000_00FF;
 
-#[derive(Drop)]
+#[derive(Clone, Copy)]
 pub(crate) struct Bench {
     // Where in the text the next character stands.
     pub at: usize,

@@ -21,7 +21,7 @@ const MOST_CHARACTERS: usize = 20_000_000;
 const LIST_WORDS: usize = 250;
 
 // A unit, and the bench that it is on.
-#[derive(Drop)]
+#[derive(Clone, Copy)]
 struct Life {
     unit: Unit,
     bench: Bench,
@@ -45,7 +45,7 @@ fn read(life: Life, character: u8) -> Life {
 }
 
 // The unit that is given lists, how many words it was given, and how many places of its answer lists were wrong.
-#[derive(Drop)]
+#[derive(Clone, Copy)]
 struct Listed {
     unit: Unit,
     words: u64,
