@@ -50,10 +50,20 @@ one_more attempts since byte levels t h low w = record {
   acked = omega arith;
   slots = omega (arith, length-drop attempt_slots levels);
   unacked = omega arith;
-  took = λ i. elim i [ zero ↦ omega arith | suc j ↦ omega (arith, w.took j) ];
-  took_one = λ i. elim i [ zero ↦ λ h. omega arith | suc j ↦ λ h. w.took_one j (omega arith) ];
-  byte = λ h i. elim i [ zero ↦ low h | suc j ↦ w.byte (low_drop attempt_slots levels h) j ];
+  took = took;
+  took_one = took_one;
+  byte = byte_low;
 }
+  where
+    took : (i : ℕ) → (get_or (behind byte (since + 1) t).acked i no_byte).attempts ≤ since + suc attempts
+    took zero = omega arith
+    took (suc j) = omega (arith, w.took j)
+    took_one : (i : ℕ) → i < length (behind byte (since + 1) t).acked → 1 ≤ (get_or (behind byte (since + 1) t).acked i no_byte).attempts
+    took_one zero h = omega arith
+    took_one (suc j) h = w.took_one j (omega arith)
+    byte_low : Low levels → (i : ℕ) → (get_or (behind byte (since + 1) t).acked i no_byte).byte < 256
+    byte_low h zero = low h
+    byte_low h (suc j) = w.byte (low_drop attempt_slots levels h) j
 
 -- of levels further on, and fewer attempts
 pub weaker : {fields fewer since attempts earlier : ℕ} {levels : List ℕ} {t : Text} (place : ℕ) → fewer ≤ attempts

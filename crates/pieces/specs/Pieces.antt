@@ -1,7 +1,7 @@
 -- A text as bytes, and pieces written into one behind each other, as far as there is room.
 use Rattle.std.specs.Prelude.{◌≡◌, List, [], ◌∷◌, ℕ, ◌+◌, ◌-◌, min, length}
 use Prim.Native.Char.{code}
-use Prim.Native.String.{String, [] as no-character, ◌∷◌ as ◌and-then◌}
+use Prim.Native.String.{String, [] as no-character, ◌∷◌ as ◌and_then◌}
 use Rattle.std.proofs.Math.Seq.{paste}
 
 -- a text as bytes

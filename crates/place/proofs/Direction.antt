@@ -7,7 +7,7 @@ use native.Mathlib.Omega.{arith}
 use borrow.Author.Tests.{eqb-false}
 use lib.Dec.{eqb}
 use lib.ListN.{get_or-eq_default}
-use Rattle.line.proofs.Either.{by_value}
+use Rattle.line.proofs.Either.{by_value as by_number}
 use Rattle.place.specs.Slaves.{by_value, controls, only, writes_of}
 use Rattle.place.specs.declared.Judged.{Judged}
 use Rattle.place.specs.declared.Judged.TheVariants.{Nak, Sends, Receives}
@@ -32,12 +32,12 @@ pub direction : (control : ℕ) (strq locked : Bool) → receives (by_value cont
 unfolding by_value writes_of
 direction control strq locked =
     let P = Agree strq locked in
-    by_value P control 0 refl (λ a. by_value P control 1 refl (λ b. by_value P control 2 refl (λ c.
-    by_value P control 3 (sent_only strq) (λ d. by_value P control 4 (sent_only locked) (λ e.
-    by_value P control 5 refl (λ f. by_value P control 6 refl (λ g. by_value P control 7 (sent_only strq) (λ h.
-    by_value P control 8 refl (λ i. by_value P control 9 refl (λ j. by_value P control 10 refl (λ k.
-    by_value P control 11 refl (λ l. by_value P control 12 refl (λ m. by_value P control 13 refl (λ n.
-    by_value P control 14 refl (λ o. by_value P control 15 refl (λ p.
+    by_number P control 0 refl (λ a. by_number P control 1 refl (λ b. by_number P control 2 refl (λ c.
+    by_number P control 3 (sent_only strq) (λ d. by_number P control 4 (sent_only locked) (λ e.
+    by_number P control 5 refl (λ f. by_number P control 6 refl (λ g. by_number P control 7 (sent_only strq) (λ h.
+    by_number P control 8 refl (λ i. by_number P control 9 refl (λ j. by_number P control 10 refl (λ k.
+    by_number P control 11 refl (λ l. by_number P control 12 refl (λ m. by_number P control 13 refl (λ n.
+    by_number P control 14 refl (λ o. by_number P control 15 refl (λ p.
     let four : 4 ≤ control = climb control 3 (climb control 2 (climb control 1 (climb control 0 zero-le a) b) c) d in
     let eight : 8 ≤ control = climb control 7 (climb control 6 (climb control 5 (climb control 4 four e) f) g) h in
     let twelve : 12 ≤ control = climb control 11 (climb control 10 (climb control 9 (climb control 8 eight i) j) k) l in

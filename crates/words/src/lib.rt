@@ -1,5 +1,7 @@
 // Words as a program reads and writes them: four bytes each, the lowest first. No public function has a `requires`, and
 // nothing is assumed.
+#![tactic(auto)]
+
 ghost use Rattle.std.specs.Prelude.{◌≡◌, ◌++◌, ◌+◌, ◌*◌, ◌/◌, ◌%◌, ◌^◌, ◌<◌, min, drop, length};
 ghost use Rattle.words.specs.Words.{bytes_of, word_at, words_of};
 
