@@ -1,5 +1,7 @@
 // The conversion of measured pulses into slot words: a pulse whose whole interval lies in the range of a symbol becomes
 // that symbol, every other becomes idle. The public function has no `requires`, and nothing is assumed.
+#![tactic(auto)]
+
 ghost use Rattle.std.specs.Prelude.{◌≡◌, ◌++◌, ◌≤◌, drop, length};
 ghost use Rattle.pulses.specs.Conversion.{Converted};
 ghost use Rattle.pulses.specs.Ranges.{bad_ranges, meet, turned};
@@ -24,6 +26,7 @@ fn meet(a: Range, b: Range) -> bool
     (a.least <= b.most) & (b.least <= a.most)
 }
 
+#[tactic(auto, unfolding(pulses::specs::Ranges::bad_ranges))]
 fn bad_ranges(s: Setting) -> bool
     ensures { result ≡ bad_ranges s }
 {
@@ -63,6 +66,7 @@ fn within(r: Range, least: u32, most: u32) -> bool
     (r.least as u32 <= least) & (most <= r.most as u32)
 }
 
+#[tactic(auto, unfolding(pulses::specs::Symbols::symbol_of))]
 fn symbol(s: Setting, least: u32, most: u32) -> u32
     ensures { result ≡ symbol_of s least most }
 {

@@ -1,5 +1,7 @@
 // The contest of several masters that begin a frame with the same start slot, in covered forms: the contenders go by
 // value. A refusal writes nothing. The public function has no `requires`, and nothing is assumed.
+#![tactic(auto)]
+
 ghost use Rattle.std.specs.Prelude.{◌≡◌, ◌<◌, ◌≤◌, length};
 ghost use Rattle.contenders.specs.Contest.{Contested, NamedRightly, contenders_of, verdict_of};
 ghost use Rattle.contenders.specs.Contest.{alike, first_alike_from, first_out, first_twin, in_range, number_of};
@@ -8,18 +10,21 @@ ghost use Rattle.contest.specs.Deciding.{Fair, Least, Losses, differs};
 use contenders::{Contender, Contenders, Outcome};
 use line::numbers::{CONTEST_SLOTS, HIGHEST_ADDRESS, LAST_CONTEST_SLOT, MOST_CONTENDERS};
 
+#[tactic(auto, unfolding(contenders::specs::Contest::in_range))]
 fn in_range(contender: Contender) -> bool
     ensures { result ≡ in_range contender }
 {
     (contender.bit <= 1) & (contender.address <= HIGHEST_ADDRESS)
 }
 
+#[tactic(auto, unfolding(contenders::specs::Contest::alike))]
 fn alike(contender: Contender, other: Contender) -> bool
     ensures { result ≡ alike contender other }
 {
     (contender.bit == other.bit) & (contender.address == other.address)
 }
 
+#[tactic(auto, unfolding(contenders::specs::Contest::number_of))]
 fn number(contender: Contender) -> u32
     ensures { result ≡ number_of contender }
 {
@@ -27,6 +32,7 @@ fn number(contender: Contender) -> u32
 }
 
 // The slot in which a contender first differs from the winner, so in which it loses; 0 where it never does.
+#[tactic(auto, unfolding(line::specs::Parity::level_of))]
 fn lost_in(winner: u32, number: u32) -> u32
     ensures { result ≡ differs 13 winner number }
 {

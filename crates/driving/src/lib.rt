@@ -1,11 +1,14 @@
 // What the unit drives in the next slot inside a frame: the bits that it sends, and its ACK. The public function has no
 // `requires`, and nothing is assumed.
+#![tactic(auto)]
+
 ghost use Rattle.std.specs.Prelude.{◌≡◌, ◌≤◌};
 ghost use Rattle.place.specs.Drive.{replied_of, drive_of, drive_in, sent_of};
 
 use place::{Field, Frame, Place, View};
 
 // A field that the unit sends: its bits, highest first, its P, and A released.
+#[tactic(auto, unfolding(place::specs::Drive::sent_of, line::specs::Parity::level_of))]
 fn sent(width: u8, value: u16, n: u8) -> bool
     requires { width ≤ 12 }
     ensures { result ≡ sent_of width value n }
@@ -21,12 +24,14 @@ fn sent(width: u8, value: u16, n: u8) -> bool
 }
 
 // A field that the unit does not send: released, and 0 for its ACK, which a broadcast has none of.
+#[tactic(auto, unfolding(place::specs::Drive::replied_of))]
 fn answer(frame: Frame, width: u8, n: u8) -> bool
     ensures { result ≡ replied_of frame width n }
 {
     (n <= width) | !frame.ack | frame.broadcast
 }
 
+#[tactic(auto, unfolding(place::specs::Drive::drive_in))]
 fn drive_in(frame: Frame, field: Field, n: u8, view: View) -> bool
     ensures { result ≡ drive_in frame field n view }
 {
@@ -66,6 +71,7 @@ fn drive_in(frame: Frame, field: Field, n: u8, view: View) -> bool
 }
 
 // The level that the unit drives in the next slot inside a frame; while it waits, it drives none but 1 here.
+#[tactic(auto, unfolding(place::specs::Drive::drive_of))]
 pub fn drive(frame: Frame, view: View) -> bool
     ensures { result ≡ drive_of frame view }
 {

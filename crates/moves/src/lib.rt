@@ -1,6 +1,8 @@
 // How the place of a unit in a frame moves on, as far as several crates ask for it: the frames that a bit, a length and
 // the end of the unit's part leave, and that of a unit that waits. No public function has a `requires`, and nothing is
 // assumed.
+#![tactic(auto)]
+
 ghost use Rattle.std.specs.Prelude.{◌≡◌};
 ghost use Rattle.place.specs.Frame.{done_of, length_of, next_of, no_frame, nowhere, shift_of, shifted_of, with_length};
 ghost use Rattle.place.specs.Slaves.{writes_of};
@@ -9,6 +11,7 @@ use line::numbers::LENGTH_OF_ZERO;
 use place::{Field, Frame, Place, Spot};
 
 // A write control: AH, BH, EH or FH.
+#[tactic(auto, unfolding(place::specs::Slaves::writes_of))]
 pub fn writes(control: u8) -> bool
     ensures { result ≡ writes_of control }
 {
@@ -16,6 +19,7 @@ pub fn writes(control: u8) -> bool
 }
 
 // "Length 00H means 256."
+#[tactic(auto, unfolding(place::specs::Frame::length_of))]
 fn length(byte: u8) -> u16
     ensures { result ≡ length_of byte }
 {
@@ -26,6 +30,7 @@ fn length(byte: u8) -> u16
 }
 
 // A bit taken in behind those before it, "highest bit first"; the register keeps twelve.
+#[tactic(auto, unfolding(place::specs::Frame::shift_of))]
 fn shift_in(bits: u16, bit: bool) -> u16
     ensures { result ≡ shift_of bits bit }
 {
@@ -65,6 +70,7 @@ pub fn none() -> Frame
 }
 
 // The unit has done its part, or the frame has ended.
+#[tactic(auto, unfolding(place::specs::Frame::done_of))]
 pub fn done(mut frame: Frame) -> Frame
     ensures { result ≡ done_of frame }
 {
@@ -74,6 +80,7 @@ pub fn done(mut frame: Frame) -> Frame
 }
 
 // The next slot of the same field.
+#[tactic(auto, unfolding(place::specs::Frame::next_of))]
 pub fn next(mut frame: Frame, field: Field, n: u8) -> Frame
     ensures { result ≡ next_of frame field n }
 {
@@ -85,6 +92,7 @@ pub fn next(mut frame: Frame, field: Field, n: u8) -> Frame
 }
 
 // One bit of a field is taken in.
+#[tactic(auto, unfolding(place::specs::Frame::shifted_of))]
 pub fn shifted(mut frame: Frame, field: Field, n: u8, bit: bool) -> Frame
     ensures { result ≡ shifted_of frame field n bit }
 {
@@ -94,6 +102,7 @@ pub fn shifted(mut frame: Frame, field: Field, n: u8, bit: bool) -> Frame
 }
 
 // The length that this unit sends, or has read.
+#[tactic(auto, unfolding(place::specs::Frame::with_length))]
 pub fn with_length(mut frame: Frame, byte: u8) -> Frame
     ensures { result ≡ with_length frame byte }
 {

@@ -15,6 +15,7 @@ pub enum Last {
 }
 
 // What the last line says of an input of so many bytes.
+#[tactic(auto, unfolding(crate::specs::Last::last_of))]
 pub(crate) fn last_line(bytes: usize) -> Last
     ensures { result ≡ last_of bytes }
 {

@@ -79,6 +79,7 @@ fn put_lines(input: &[u8], answers: &[u8], text: &mut [u8]) -> usize
 // The listing of an input, whose words are answered by those of the second list, goes to the front of the text; the
 // number says how long it is. The rest of the text stays as it was, and so does a text too short for the longest
 // listing, whatever the input: the number is then 0.
+#[tactic(auto, unfolding(crate::specs::Listing::listed_of, crate::specs::Last::last_text))]
 pub fn listing(input: &[u8], answers: &[u8], text: &mut [u8]) -> usize
     ensures count { result ≡ length (listed_of input.now answers.now (length text.old)) }
     ensures written { text.new ≡ listed_of input.now answers.now (length text.old)

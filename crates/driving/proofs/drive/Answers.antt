@@ -1,0 +1,19 @@
+use Rattle.place.specs.Drive.{drive_of}
+use borrow.Author.Rules.{rules}
+use Rattle.driving.proofs.drive.Goals as goal
+
+pub returns-in-Waiting : goal.returns-in-Waiting
+unfolding drive_of
+returns-in-Waiting c =
+    simp (c.in-Waiting.is, c.in-Waiting.in-Waiting-own.keys1)
+
+pub returns-in-In : goal.returns-in-In
+unfolding drive_of
+returns-in-In c =
+    simp (
+      c.drive_in.ensures,
+      c.in-In.known_told-1-own.given.0.1.0,
+      c.in-In.known_told-1-own.given.1.0.0,
+      c.in-In.is,
+      c.in-In.in-In-own.keys2,
+    )

@@ -1,0 +1,6 @@
+use borrow.Author.Rules.{rules}
+use Rattle.moves.proofs.none.Goals as goal
+
+pub returns : goal.returns
+returns c =
+    simp c.nowhere-spot.ensures

@@ -1,0 +1,15 @@
+use Prim.Native.Nat.{◌≤◌, ◌-◌}
+use native.Mathlib.Omega.{arith}
+use mathlib.Core.Path.{◌≡◌, ◌∙◌, ap, sym, refl}
+use borrow.Author.Rules.{rules}
+use lib.ListN.{length}
+use Rattle.text.specs.Writing.{LinesUpTo}
+use Rattle.text.proofs.Digits.{line_length}
+use Rattle.text.proofs.Lines.{begun, since, one_more}
+use Rattle.text.proofs.listing.put_lines.Given as goal
+
+abbrev pub invariant-loop-i : goal.invariant-loop-i
+invariant-loop-i l = (l.i ≤ l.count) × (length l.text ≡ length l.initial.text) × LinesUpTo l.input l.answers l.initial.text l.i l.at l.text
+
+abbrev pub decreases-loop-i : goal.decreases-loop-i
+decreases-loop-i l = l.count - l.i
