@@ -44,6 +44,7 @@ settled_above n w (x ∷ xs) cs = omega (arith, close_level cs.0, settled_above 
 
 settled_below : (n w : ℕ) (xs : List ℕ) → Among w xs → settled n xs ≤ level_of n w
 unfolding settled
+settled_below n w [] a = elim a [ ]
 settled_below n w (x ∷ xs) (inl e) = omega (arith, ap (level_of n) e)
 settled_below n w (x ∷ xs) (inr a) = omega (arith, settled_below n w xs a)
 
@@ -62,6 +63,7 @@ remain_close n w (x ∷ xs) cs =
 
 remain_among : (n w : ℕ) (xs : List ℕ) → Among w xs → Among w (remaining n (level_of n w) xs)
 unfolding remaining
+remain_among n w [] a = elim a [ ]
 remain_among n w (x ∷ xs) (inl e) = simp (le-ltb (level_of n w) (level_of n x) (omega (arith, ap (level_of n) e)))
     (inl e)
 remain_among n w (x ∷ xs) (inr a) =

@@ -11,6 +11,7 @@ use moves::{done, next, shifted, writes};
 use place::{Event, Field, Frame, Moved, Place, Spot, View};
 
 // A field begins.
+#[tactic(auto, unfolding(place::specs::Frame::to_field))]
 pub(crate) fn to(mut frame: Frame, field: Field) -> Frame
     ensures { result ≡ to_field frame field }
 {
@@ -23,6 +24,7 @@ pub(crate) fn to(mut frame: Frame, field: Field) -> Frame
 }
 
 // "An ACK is .. awaited from another, the settled level", and "in a broadcast .. A is ignored".
+#[tactic(auto, unfolding(place::specs::Step::heard_of))]
 pub(crate) fn heard(frame: Frame, bit: bool) -> bool
     ensures { result ≡ heard_of frame bit }
 {
@@ -30,12 +32,14 @@ pub(crate) fn heard(frame: Frame, bit: bool) -> bool
 }
 
 // The ACK after slave address and control, which the slave gives.
+#[tactic(auto, unfolding(place::specs::Step::header_ack))]
 fn header_ack(frame: Frame, bit: bool) -> bool
     ensures { result ≡ header_ack frame bit }
 {
     (frame.leads & heard(frame, bit)) | (!frame.leads & frame.ack)
 }
 
+#[tactic(auto, unfolding(place::specs::Step::at_broadcast))]
 pub(crate) fn at_broadcast(mut frame: Frame, bit: bool) -> Moved
     ensures { result ≡ at_broadcast frame bit }
 {
@@ -47,6 +51,7 @@ pub(crate) fn at_broadcast(mut frame: Frame, bit: bool) -> Moved
 }
 
 // The master address is whole, and its P says whether it is sound.
+#[tactic(auto, unfolding(place::specs::Step::master_of))]
 fn with_master(mut frame: Frame, held: bool) -> Frame
     ensures { result ≡ master_of frame held }
 {
@@ -56,6 +61,7 @@ fn with_master(mut frame: Frame, held: bool) -> Frame
     to(frame, Field::Slave)
 }
 
+#[tactic(auto, unfolding(place::specs::Step::at_master))]
 pub(crate) fn at_master(frame: Frame, n: u8, bit: bool) -> Moved
     ensures { result ≡ at_master frame n bit }
 {
@@ -73,6 +79,7 @@ pub(crate) fn at_master(frame: Frame, n: u8, bit: bool) -> Moved
 }
 
 // After P: the A slot, or nothing more for this unit.
+#[tactic(auto, unfolding(place::specs::Step::go_on))]
 pub(crate) fn go_on(frame: Frame, field: Field, n: u8, goes: bool) -> Moved
     ensures { result ≡ go_on frame field n goes }
 {
@@ -89,6 +96,7 @@ pub(crate) fn go_on(frame: Frame, field: Field, n: u8, goes: bool) -> Moved
 }
 
 // After A: the field that follows, or the NAK that stops the frame.
+#[tactic(auto, unfolding(place::specs::Step::after_ack))]
 pub(crate) fn after_ack(frame: Frame, acked: bool, field: Field, event: Event) -> Moved
     ensures { result ≡ after_ack frame acked field event }
 {
@@ -104,6 +112,7 @@ pub(crate) fn after_ack(frame: Frame, acked: bool, field: Field, event: Event) -
     }
 }
 
+#[tactic(auto, unfolding(place::specs::Step::with_slave))]
 fn with_slave(mut frame: Frame, ack: bool) -> Frame
     ensures { result ≡ with_slave frame ack }
 {
@@ -114,6 +123,7 @@ fn with_slave(mut frame: Frame, ack: bool) -> Frame
 }
 
 // P of the slave address: a slave goes on only where it is addressed.
+#[tactic(auto, unfolding(place::specs::Step::slave_judged))]
 fn slave_judged(frame: Frame, n: u8, bit: bool, own: u16) -> Moved
     ensures { result ≡ slave_judged frame n bit own }
 {
@@ -122,6 +132,7 @@ fn slave_judged(frame: Frame, n: u8, bit: bool, own: u16) -> Moved
     go_on(with_slave(frame, mine), Field::Slave, n, frame.leads | mine)
 }
 
+#[tactic(auto, unfolding(place::specs::Step::at_slave))]
 pub(crate) fn at_slave(frame: Frame, n: u8, bit: bool, own: u16) -> Moved
     ensures { result ≡ at_slave frame n bit own }
 {
@@ -142,6 +153,7 @@ pub(crate) fn at_slave(frame: Frame, n: u8, bit: bool, own: u16) -> Moved
     )
 }
 
+#[tactic(auto, unfolding(place::specs::Step::with_control))]
 fn with_control(mut frame: Frame, control: u8, ack: bool, sends: bool) -> Frame
     ensures { result ≡ with_control frame control ack sends }
 {
@@ -152,6 +164,7 @@ fn with_control(mut frame: Frame, control: u8, ack: bool, sends: bool) -> Frame
 }
 
 // P of the control: a slave goes on only where it accepts. A master sends what a write control says.
+#[tactic(auto, unfolding(place::specs::Step::control_judged))]
 fn control_judged(frame: Frame, n: u8, bit: bool, view: View) -> Moved
     ensures { result ≡ control_judged frame n bit view }
 {
@@ -169,6 +182,7 @@ fn control_judged(frame: Frame, n: u8, bit: bool, view: View) -> Moved
     )
 }
 
+#[tactic(auto, unfolding(place::specs::Step::at_control))]
 pub(crate) fn at_control(frame: Frame, n: u8, bit: bool, view: View) -> Moved
     ensures { result ≡ at_control frame n bit view }
 {

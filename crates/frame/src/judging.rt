@@ -8,6 +8,7 @@ use place::{Frame, Judged, View};
 
 // The slave address is for this unit, and both parities held: its own or, in a broadcast, the group's ("same top four
 // address bits") or the general one.
+#[tactic(auto, unfolding(place::specs::Slaves::addressed_of))]
 pub(crate) fn addressed(frame: Frame, address: u16, own: u16, held: bool) -> bool
     ensures { result ≡ addressed_of frame address own held }
 {
@@ -17,6 +18,7 @@ pub(crate) fn addressed(frame: Frame, address: u16, own: u16, held: bool) -> boo
 }
 
 // A locked unit, and another master than the holder.
+#[tactic(auto, unfolding(place::specs::Slaves::stranger_of))]
 pub(crate) fn stranger(view: View, master: u16) -> bool
     ensures { result ≡ stranger_of view master }
 {
@@ -24,6 +26,7 @@ pub(crate) fn stranger(view: View, master: u16) -> bool
 }
 
 // What a stranger gets all the same: 0H, 4H, 5H.
+#[tactic(auto, unfolding(place::specs::Slaves::open_to))]
 fn open_to_all(control: u8) -> bool
     ensures { result ≡ open_to control }
 {
@@ -40,6 +43,7 @@ fn only(allowed: bool, judged: Judged) -> Judged
 }
 
 // "Control, decided over all sixteen values."
+#[tactic(auto, unfolding(place::specs::Slaves::by_value))]
 fn by_value(control: u8, strq: bool, ready: bool, locked: bool) -> Judged
     ensures { result ≡ by_value control strq ready locked }
 {
@@ -53,6 +57,7 @@ fn by_value(control: u8, strq: bool, ready: bool, locked: bool) -> Judged
 }
 
 // What a slave makes of a control: from whom it comes, then its value.
+#[tactic(auto, unfolding(place::specs::Slaves::control_of))]
 pub(crate) fn judge_control(
     control: u8,
     strange: bool,
@@ -69,6 +74,7 @@ pub(crate) fn judge_control(
 }
 
 // Whether what was judged is taken: in a broadcast only what is received.
+#[tactic(auto, unfolding(place::specs::Slaves::accepted_of))]
 pub(crate) fn accepted(judged: Judged, broadcast: bool) -> bool
     ensures { result ≡ accepted_of judged broadcast }
 {

@@ -11,6 +11,7 @@ use moves::done;
 use place::{Event, Field, Frame, Moved, Place, View};
 
 // One level in a field, with nothing of the unit's own overruled.
+#[tactic(auto, unfolding(place::specs::Step::at_field))]
 fn at_field(frame: Frame, field: Field, n: u8, bit: bool, view: View) -> Moved
     ensures { result ≡ at_field frame field n bit view }
 {
@@ -25,6 +26,7 @@ fn at_field(frame: Frame, field: Field, n: u8, bit: bool, view: View) -> Moved
 }
 
 // The slots in which a contest is lost: the broadcast bit and the twelve address bits.
+#[tactic(auto, unfolding(place::specs::Masters::contested_of))]
 fn contested(field: Field, n: u8) -> bool
     ensures { result ≡ contested_of field n }
 {
@@ -39,6 +41,7 @@ fn contested(field: Field, n: u8) -> bool
 }
 
 // The master's own bits, P with them: A is none of them, nor is what another sends.
+#[tactic(auto, unfolding(place::specs::Masters::own_bit))]
 fn own_bit(frame: Frame, field: Field, n: u8) -> bool
     ensures { result ≡ own_bit frame field n }
 {
@@ -53,6 +56,7 @@ fn own_bit(frame: Frame, field: Field, n: u8) -> bool
 }
 
 // A master drives 1 in a bit of its own and reads 0. "A sending slave does not compare."
+#[tactic(auto, unfolding(place::specs::Masters::clash_of))]
 fn clash(frame: Frame, field: Field, n: u8, bit: bool, view: View) -> bool
     ensures { result ≡ clash_of frame field n bit view }
 {
@@ -99,6 +103,7 @@ fn in_field(frame: Frame, field: Field, n: u8, bit: bool, view: View) -> Moved
 }
 
 // One level of the frame under way; while the unit waits for a start, nothing.
+#[tactic(auto, unfolding(place::specs::Step::level_of))]
 pub fn level(frame: Frame, bit: bool, view: View) -> Moved
     ensures { result ≡ level_of frame bit view }
 {

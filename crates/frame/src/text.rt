@@ -9,12 +9,14 @@ use moves::{done, shifted, with_length};
 use place::{Event, Field, Frame, Moved};
 
 // The ACK after length and data, which whoever does not send them gives.
+#[tactic(auto, unfolding(place::specs::Step::text_ack))]
 fn text_ack(frame: Frame, bit: bool) -> bool
     ensures { result ≡ text_ack frame bit }
 {
     (frame.sends & heard(frame, bit)) | (!frame.sends & frame.ack)
 }
 
+#[tactic(auto, unfolding(place::specs::Step::with_ack))]
 fn with_ack(mut frame: Frame, ack: bool) -> Frame
     ensures { result ≡ with_ack frame ack }
 {
@@ -23,6 +25,7 @@ fn with_ack(mut frame: Frame, ack: bool) -> Frame
 }
 
 // P of the length: whoever does not send it reads it.
+#[tactic(auto, unfolding(place::specs::Step::length_judged))]
 fn length_judged(frame: Frame, n: u8, bit: bool) -> Moved
     ensures { result ≡ length_judged frame n bit }
 {
@@ -35,6 +38,7 @@ fn length_judged(frame: Frame, n: u8, bit: bool) -> Moved
     go_on(read, Field::Length, n, held | !frame.broadcast)
 }
 
+#[tactic(auto, unfolding(place::specs::Step::at_length))]
 pub(crate) fn at_length(frame: Frame, n: u8, bit: bool) -> Moved
     ensures { result ≡ at_length frame n bit }
 {
@@ -51,6 +55,7 @@ pub(crate) fn at_length(frame: Frame, n: u8, bit: bool) -> Moved
 }
 
 // P of a byte: "bad parity is NAK", and in a broadcast it ends the frame.
+#[tactic(auto, unfolding(place::specs::Step::data_judged))]
 fn data_judged(frame: Frame, n: u8, bit: bool) -> Moved
     ensures { result ≡ data_judged frame n bit }
 {
@@ -67,6 +72,7 @@ fn data_judged(frame: Frame, n: u8, bit: bool) -> Moved
 }
 
 // One attempt more.
+#[tactic(auto, unfolding(place::specs::Step::counted_of))]
 fn counted(mut frame: Frame) -> Frame
     ensures { result ≡ counted_of frame }
 {
@@ -76,6 +82,7 @@ fn counted(mut frame: Frame) -> Frame
 }
 
 // One byte more is ACKed.
+#[tactic(auto, unfolding(place::specs::Step::acked_of))]
 fn with_acked(mut frame: Frame) -> Frame
     ensures { result ≡ acked_of frame }
 {
@@ -85,6 +92,7 @@ fn with_acked(mut frame: Frame) -> Frame
 }
 
 // This attempt is the last that the frame can have.
+#[tactic(auto, unfolding(place::specs::Step::last_of))]
 fn last(frame: Frame) -> bool
     ensures { result ≡ last_of frame }
 {
@@ -92,6 +100,7 @@ fn last(frame: Frame) -> bool
 }
 
 // With this byte all are ACKed.
+#[tactic(auto, unfolding(place::specs::Step::whole_of))]
 fn whole(frame: Frame) -> bool
     ensures { result ≡ whole_of frame }
 {
@@ -99,6 +108,7 @@ fn whole(frame: Frame) -> bool
 }
 
 // After an ACKed byte: the end, or the next byte.
+#[tactic(auto, unfolding(place::specs::Step::ends_of))]
 fn ends(frame: Frame, whole: bool, last: bool) -> Moved
     ensures { result ≡ ends_of frame whole last }
 {
@@ -121,6 +131,7 @@ fn ends(frame: Frame, whole: bool, last: bool) -> Moved
 }
 
 // "NAK after data repeats the byte", while attempts are left.
+#[tactic(auto, unfolding(place::specs::Step::again_of))]
 fn again(frame: Frame, last: bool) -> Moved
     ensures { result ≡ again_of frame last }
 {
@@ -137,6 +148,7 @@ fn again(frame: Frame, last: bool) -> Moved
 }
 
 // A of a byte.
+#[tactic(auto, unfolding(place::specs::Step::data_acked))]
 fn data_acked(frame: Frame, bit: bool) -> Moved
     ensures { result ≡ data_acked frame bit }
 {
@@ -146,6 +158,7 @@ fn data_acked(frame: Frame, bit: bool) -> Moved
     again(counted(frame), last(frame))
 }
 
+#[tactic(auto, unfolding(place::specs::Step::at_data))]
 pub(crate) fn at_data(frame: Frame, n: u8, bit: bool) -> Moved
     ensures { result ≡ at_data frame n bit }
 {

@@ -47,6 +47,7 @@ fn alike_bytes(records: &[u32], a: usize, b: usize, count: usize) -> bool
 }
 
 // Whether a frame says what the one before said.
+#[tactic(auto, unfolding(crate::specs::Entries::alike_entries))]
 pub(crate) fn alike(records: &[u32], before: Entry, entry: Entry) -> bool
     requires { (before.bytes + acked_in before ≤ length records.now)
         × (entry.bytes + acked_in entry ≤ length records.now) }

@@ -1,6 +1,8 @@
 // The reader of line logs: it "belongs to no address", takes "the mode and a lent list of slot words and gives the
 // number of frames and, in order, one record for each from its start". The public function has no `requires`, and
 // nothing is assumed.
+#![tactic(auto)]
+
 mod entry;
 mod head;
 mod levels;

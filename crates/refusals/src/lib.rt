@@ -1,5 +1,7 @@
 // Which of the host's words are refused: the lowest number first, 0 where none is. No public function has a `requires`,
 // and nothing is assumed.
+#![tactic(auto)]
+
 ghost use Rattle.std.specs.Prelude.{◌≡◌};
 ghost use Rattle.rules.specs.Registers.{cmr_refusal, ctr_refusal, mcr_listed, read_refusal, request_refusal};
 ghost use Rattle.rules.specs.Registers.{tbf_refusal, uar_refusal, write_refusal};
@@ -14,6 +16,7 @@ use moves::writes;
 use rules::state::Registers;
 
 // "CTR (00H nothing, 08H reset, 10H set SLRE)".
+#[tactic(auto, unfolding(rules::specs::Registers::ctr_refusal))]
 fn ctr_refusal(v: u8) -> u8
     ensures { result ≡ ctr_refusal v }
 {
@@ -24,6 +27,7 @@ fn ctr_refusal(v: u8) -> u8
 }
 
 // "CMR (08H master request, 0BH offer slave data, 0FH clear SLRE, .. 40H copy the lock into LOR ..)".
+#[tactic(auto, unfolding(rules::specs::Registers::cmr_refusal))]
 fn cmr_refusal(regs: Registers, waiting: usize, v: u8) -> u8
     ensures { result ≡ cmr_refusal regs waiting v }
 {
@@ -45,6 +49,7 @@ fn cmr_refusal(regs: Registers, waiting: usize, v: u8) -> u8
 }
 
 // "UAR with MARQ, STRQ, SLRE or locked".
+#[tactic(auto, unfolding(rules::specs::Registers::uar_refusal))]
 fn uar_refusal(regs: Registers, listed: bool) -> u8
     ensures { result ≡ uar_refusal regs listed }
 {
@@ -58,6 +63,7 @@ fn uar_refusal(regs: Registers, listed: bool) -> u8
 }
 
 // SAR and MCR with MARQ.
+#[tactic(auto, unfolding(rules::specs::Registers::request_refusal))]
 fn request_refusal(regs: Registers, listed: bool) -> u8
     ensures { result ≡ request_refusal regs listed }
 {
@@ -71,6 +77,7 @@ fn request_refusal(regs: Registers, listed: bool) -> u8
 }
 
 // Neither "MCR control undefined" nor "MCR broadcast with a read control".
+#[tactic(auto, unfolding(rules::specs::Registers::mcr_listed))]
 fn mcr_listed(v: u8) -> bool
     ensures { result ≡ mcr_listed v }
 {
@@ -79,6 +86,7 @@ fn mcr_listed(v: u8) -> bool
 }
 
 // "TBF write at 33 bytes".
+#[tactic(auto, unfolding(rules::specs::Registers::tbf_refusal))]
 fn tbf_refusal(waiting: usize) -> u8
     ensures { result ≡ tbf_refusal waiting }
 {
@@ -89,6 +97,7 @@ fn tbf_refusal(waiting: usize) -> u8
 }
 
 // "Written: 0H CTR .. 1H CMR .. 2H UAR1 .. 3H UAR2 .. 4H SAR1 .. 5H SAR2. 6H MCR .. EH TBF".
+#[tactic(auto, unfolding(rules::specs::Registers::write_refusal))]
 pub fn write_refusal(regs: Registers, waiting: usize, register: u8, v: u8) -> u8
     ensures { result ≡ write_refusal regs waiting register v }
 {
@@ -106,6 +115,7 @@ pub fn write_refusal(regs: Registers, waiting: usize, register: u8, v: u8) -> u8
 }
 
 // "Read: 0H STR .. 1H FLG .. 2H RDR1, 3H RDR2. 4H LOR1 .. 5H LOR2 .. 8H RCR .. EH RBF"; "RBF read when empty".
+#[tactic(auto, unfolding(rules::specs::Registers::read_refusal))]
 pub fn read_refusal(register: u8, clear: bool) -> u8
     ensures { result ≡ read_refusal register clear }
 {

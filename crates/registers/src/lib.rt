@@ -1,5 +1,7 @@
 // What the host's words do to the registers, what a read gives, and a unit after a reset but for its buffers. No public
 // function has a `requires`, and nothing is assumed.
+#![tactic(auto)]
+
 ghost use Rattle.std.specs.Prelude.{true, ◌≡◌, ◌+◌, ◌*◌, eqb};
 ghost use Rattle.line.specs.Choice.{bit_of, pick};
 ghost use Rattle.line.specs.Numbers.{ctr_set_slre};
@@ -26,6 +28,7 @@ fn with_lor(mut regs: Registers, lor1: u8, lor2: u8) -> Registers
 
 // "Copy the lock into LOR, zeros if unlocked"; "LOR1 (low 8), LOR2 (high half 0001 if locked; low half address high
 // 4)".
+#[tactic(auto, unfolding(rules::specs::Registers::lor_copied))]
 fn lor_copied(regs: Registers) -> Registers
     ensures { result ≡ lor_copied regs }
 {
@@ -38,6 +41,7 @@ fn lor_copied(regs: Registers) -> Registers
 }
 
 // A master request: "RDR1 is 0 at a master request"; losses are counted afresh.
+#[tactic(auto, unfolding(rules::specs::Registers::requested))]
 fn request_made(mut regs: Registers) -> Registers
     ensures { result ≡ requested regs }
 {
@@ -62,6 +66,7 @@ fn with_slre(mut regs: Registers, set: bool) -> Registers
 }
 
 // A command of CMR that is accepted.
+#[tactic(auto, unfolding(rules::specs::Registers::commanded))]
 fn command(regs: Registers, v: u8) -> Registers
     ensures { result ≡ commanded regs v }
 {
@@ -92,6 +97,7 @@ fn with_slave(mut regs: Registers, slave: u16) -> Registers
 }
 
 // "UAR1 (own address low 4 bits, then 0, 0, sending enabled, mode)".
+#[tactic(auto, unfolding(rules::specs::Registers::uar1_written))]
 fn uar1_written(mut regs: Registers, v: u8) -> Registers
     ensures { result ≡ uar1_written regs v }
 {
@@ -105,6 +111,7 @@ fn uar1_written(mut regs: Registers, v: u8) -> Registers
 }
 
 // "MCR (broadcast bit as on the wire, retries 0 to 7, control)".
+#[tactic(auto, unfolding(rules::specs::Registers::mcr_written))]
 fn mcr_written(mut regs: Registers, v: u8) -> Registers
     ensures { result ≡ mcr_written regs v }
 {
@@ -127,6 +134,7 @@ fn ctr_written(regs: Registers, v: u8) -> Registers
 }
 
 // The registers after an accepted write but a reset's and TBF's.
+#[tactic(auto, unfolding(rules::specs::Registers::written))]
 pub fn write(regs: Registers, register: u8, v: u8) -> Registers
     ensures { result ≡ written regs register v }
 {
@@ -151,6 +159,7 @@ fn four_flags(a: bool, b: bool, c: bool, d: bool) -> u8
 }
 
 // "STR (TFL, TEP, RFL, REP in bits 7-4)".
+#[tactic(auto, unfolding(rules::specs::Registers::str_byte))]
 fn str_byte(waiting: usize, stored: usize) -> u8
     ensures { result ≡ str_byte waiting stored }
 {
@@ -163,6 +172,7 @@ fn str_byte(waiting: usize, stored: usize) -> u8
 }
 
 // "FLG (MARQ, STRQ, SLRE in bits 6-4)".
+#[tactic(auto, unfolding(rules::specs::Registers::flg_byte))]
 fn flg_byte(regs: Registers) -> u8
     ensures { result ≡ flg_byte regs }
 {
@@ -170,6 +180,7 @@ fn flg_byte(regs: Registers) -> u8
 }
 
 // "RCR (MARC high, SLRC low)".
+#[tactic(auto, unfolding(rules::specs::Registers::rcr_byte))]
 fn rcr_byte(regs: Registers) -> u8
     ensures { result ≡ rcr_byte regs }
 {
@@ -177,6 +188,7 @@ fn rcr_byte(regs: Registers) -> u8
 }
 
 // A register but RBF, from the registers and the number of bytes in each buffer.
+#[tactic(auto, unfolding(rules::specs::Registers::read_value))]
 pub fn read_value(regs: Registers, waiting: usize, stored: usize, register: u8) -> u8
     ensures { result ≡ read_value regs waiting stored register }
 {

@@ -7,7 +7,7 @@ use Rattle.contest.proofs.alike_from.Goals as goal
 
 pub loop-i-init : goal.loop-i-init
 loop-i-init c =
-    sought_from (alike c.args.contender) c.args.t1 c.args.from c.requires.1
+    sought_from (alike c.args.contender) c.args.all c.args.from c.requires.1
 
 pub returns-then-alike : goal.returns-then-alike
 returns-then-alike c =

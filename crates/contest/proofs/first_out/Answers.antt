@@ -8,7 +8,7 @@ use Rattle.contest.proofs.first_out.Goals as goal
 
 pub loop-i-init : goal.loop-i-init
 loop-i-init c =
-    sought_none out_of_range c.args.t1
+    sought_none out_of_range c.args.all
 
 pub returns-then-not-in_range : goal.returns-then-not-in_range
 returns-then-not-in_range c =

@@ -6,7 +6,7 @@ use Rattle.contest.proofs.first_twin.Goals as goal
 
 pub loop-place-init : goal.loop-place-init
 loop-place-init c =
-    untwinned_none c.args.t1
+    untwinned_none c.args.all
 
 pub returns-then-alike_from-count : goal.returns-then-alike_from-count
 returns-then-alike_from-count c =

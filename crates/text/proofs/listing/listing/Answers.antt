@@ -17,7 +17,7 @@ returns-then-text-lt-LISTING_BYTES c =
 pub returns-in-Nothing : goal.returns-in-Nothing
 unfolding listed_of last_text
 returns-in-Nothing c =
-    let is = sym c.last_Line.ensures ∙ c.in-Nothing.is in (
+    let is = sym c.last_line-last.ensures ∙ c.in-Nothing.is in (
       sym (add-zero _) ∙ listed_length Nothing c.put_lines-at.ensures.lines_in is c.if-text-lt-LISTING_BYTES.false,
       (without_last c.put_lines-at.ensures.lines_in is c.if-text-lt-LISTING_BYTES.false, search rules),
     )

@@ -1,0 +1,30 @@
+use Rattle.place.specs.Step.{at_length}
+use borrow.Author.Tests.{lt-ltb, eq-eqb, le-ltb, ne_eqb}
+use borrow.Author.Rules.{rules}
+use Rattle.frame.proofs.text.at_length.Goals as goal
+
+pub returns-then-n-lt8 : goal.returns-then-n-lt8
+unfolding at_length
+returns-then-n-lt8 c =
+    simp (c.shifted.ensures, lt-ltb _ _ c.if-n-lt8.true)
+
+pub returns-then-n-eq8 : goal.returns-then-n-eq8
+unfolding at_length
+returns-then-n-eq8 c =
+    simp (
+      c.length_judged.ensures,
+      eq-eqb _ _ c.if-n-eq8.true,
+      le-ltb _ _
+          c.if-n-lt8.false,
+    )
+
+pub returns : goal.returns
+unfolding at_length
+returns c =
+    simp (
+      c.after_ack.ensures,
+      c.text_ack.ensures,
+      ne_eqb _ _
+          c.if-n-eq8.false,
+      le-ltb _ _ c.if-n-lt8.false,
+    )

@@ -1,0 +1,12 @@
+use borrow.Author.Rules.{rules}
+use native.Mathlib.Omega.{arith}
+use Prim.Native.Nat.{◌-◌}
+use lib.ListN.{length}
+use Rattle.reader.proofs.Log.{SoFar, levels_there, next_ahead, record_room, so_far_all, so_far_none, so_far_one}
+use Rattle.reader.proofs.put_records.Given as goal
+
+abbrev pub invariant-loop-at : goal.invariant-loop-at
+invariant-loop-at l = SoFar l.long l.slots l.initial.records l.records l.frames l.next l.before l.at
+
+abbrev pub decreases-loop-at : goal.decreases-loop-at
+decreases-loop-at l = length l.slots - l.at

@@ -1,0 +1,8 @@
+use Rattle.rules.specs.Registers.{str_byte}
+use borrow.Author.Rules.{rules}
+use Rattle.registers.proofs.str_byte.Goals as goal
+
+pub returns : goal.returns
+unfolding str_byte
+returns c =
+    simp c.four_flags.ensures
