@@ -11,7 +11,7 @@ use Rattle.text.proofs.listing.put_lines.Goals as goal
 
 pub loop-i-init : goal.loop-i-init
 loop-i-init c =
-    (search rules, refl, begun _ _ c.args.text.now c.put.new.0 c.put.ensures)
+    (search rules, refl, begun _ _ c.args.text.now c.put.new.text c.put.ensures)
 
 pub slice_bounds-put-end-in-loop-i : goal.slice_bounds-put-end-in-loop-i
 slice_bounds-put-end-in-loop-i c =
