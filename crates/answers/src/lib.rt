@@ -1,5 +1,7 @@
 // An answer as a word, and whether bytes are whole words with room for their answers. No public function has a
 // `requires`, and nothing is assumed.
+#![tactic(auto)]
+
 ghost use Rattle.std.specs.Prelude.{◌≡◌};
 ghost use Rattle.lists.specs.Bytes.{count_refusal};
 ghost use Rattle.rules.specs.Step.{word_of};
@@ -12,6 +14,7 @@ use rules::answer::{Answer, Reply};
 // How many bytes spell a word.
 const WORD_BYTES: usize = 4;
 
+#[tactic(auto, unfolding(rules::specs::Step::word_of))]
 fn reply_word(reply: Reply) -> u32
     ensures { result ≡ word_of (Answer.Given reply) }
 {
@@ -24,6 +27,7 @@ fn reply_word(reply: Reply) -> u32
 
 // "Answers: 8 slot taken, 9 written, 10 read (bits 7-0 value), 15 refused (bits 7-0 number). Kinds 8 to 10 carry in
 // bits 9-8 what the unit drives in the next slot".
+#[tactic(auto, unfolding(rules::specs::Step::word_of))]
 pub fn answer_word(answer: Answer) -> u32
     ensures { result ≡ word_of answer }
 {
@@ -34,6 +38,7 @@ pub fn answer_word(answer: Answer) -> u32
 }
 
 // With which number a run over so many bytes of words, and so many for answers, is refused; 0 where it is not.
+#[tactic(auto, unfolding(lists::specs::Bytes::count_refusal))]
 pub fn byte_refusal(words: usize, answers: usize) -> u32
     ensures { result ≡ count_refusal words answers }
 {

@@ -4,7 +4,7 @@ use native.Mathlib.Omega.{arith}
 use mathlib.Core.Bool.{Bool, true, false}
 use mathlib.Core.List.{List, [], ◌∷◌, ◌++◌}
 use mathlib.Core.Logic.{◌⊎◌, inl, inr, ⊎_elim}
-use mathlib.Core.Path.{◌≡◌, refl, sym, ap, ap₂, ◌∙◌}
+use mathlib.Core.Path.{◌≡◌, refl, sym, ap, ap₂, subst, ◌∙◌}
 use borrow.Author.Tests.{eqb-false, eqb-true, le-ltb, lt-ltb, ltb-false, ltb-true}
 use lib.Dec.{eqb, ltb}
 use lib.ListN.{length, set, drop}
@@ -92,9 +92,10 @@ items_more n bytes x l zero f hf hk =
     rw (wrap_none n f hf) (ap (λ (v : ℕ). v ∷ []) (get_or-set_same bytes f x 0 (omega arith)))
 items_more n bytes x l (suc k) f hf hk =
     let apart : f ≡ wrap n (f + suc k) → ⊥ = λ e. wrap_apart n f 0 (suc k) hf (omega arith) hk (wrap_none n f hf ∙ e) in
+    let rest = items_more n bytes x l k (wrap n (f + 1)) (wrap_less n f 1 hf (omega arith)) (omega arith) in
     ap₂ ◌∷◌ (get_or-set_other bytes (wrap n (f + suc k)) f x 0 apart)
-    (rw (wrap_next n f k hf hk)
-    (items_more n bytes x l k (wrap n (f + 1)) (wrap_less n f 1 hf (omega arith)) (omega arith)))
+    (subst (λ (w : ℕ). items n (set bytes w x) (wrap n (f + 1)) (suc k) ≡ items n bytes (wrap n (f + 1)) k ++ x ∷ [])
+    (sym (wrap_next n f k hf hk)) rest)
 
 items_rest : (n : ℕ) (bytes : List ℕ) (f k : ℕ) → 0 < k
     → items n bytes (wrap n (f + 1)) (k - 1) ≡ drop 1 (items n bytes f k)

@@ -60,9 +60,9 @@ unfolding control_name
 name_at control below =
     each_below (λ (k : ℕ). take 13 (drop (k * 13) name_table)) (λ (k : ℕ). control_name k) 16 refl control below
 
-pub name_by : (given control : ℕ) → control < 16
+pub name-by : (given control : ℕ) → control < 16
     → take 13 (drop (name_by given control) name_table) ≡ pick (ltb 3 given) (control_name control) dashed
-name_by given control below = by_test (ltb 3 given) where
+name-by given control below = by_test (ltb 3 given) where
   by_test : (b : Bool)
       → take 13 (drop (pick b (control * 13) 208) name_table) ≡ pick b (control_name control) dashed
   by_test true = name_at control below
@@ -82,9 +82,9 @@ abbrev ending_at : ℕ → List ℕ
 ending_at k =
     take (get_or place_table (k + 1) 0 - get_or place_table k 0) (drop (get_or place_table k 0) ending_table)
 
-pub ending_at : (ending : ℕ) → ending < 16 → ending_at ending ≡ ending_column ending
+pub ending-at : (ending : ℕ) → ending < 16 → ending_at ending ≡ ending_column ending
 unfolding ending_column
-ending_at ending below = each_below ending_at (λ (k : ℕ). ending_column k) 16 refl ending below
+ending-at ending below = each_below ending_at (λ (k : ℕ). ending_column k) 16 refl ending below
 
 -- how far a place is past the next, and the next past the end: nothing
 abbrev past : ℕ → List ℕ

@@ -46,9 +46,9 @@ list_cases =
     ∷ (slre (state_after reset (spelled ++ 0 ∷ []) (1 ∷ 2 ∷ 3 ∷ 4 ∷ 5 ∷ [])) gives 0 ∷ [])
     ∷ []
 
-pub list_cases : all_given list_cases ≡ true
+pub list-cases : all_given list_cases ≡ true
 unfolding all_given list_cases answers_after list_refusal unit_after bytes_after bytes_of count_refusal state_after words_of run
     answers class_of slot_of state.is_empty state.takes_part slots.core_drive registers.ctr_refusal registers.write_refusal
     registers.written registers.read_refusal registers.flg_byte registers.read_value registers.write_done
     registers.write_told registers.read_told registers.told_of step.next_drive step.step_of step.answer_of step.word_of
-list_cases = refl
+list-cases = refl

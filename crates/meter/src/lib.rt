@@ -1,6 +1,8 @@
 // The figures of a log: after every slot, how many of the latest are not idle. The work for each slot is the same
 // whatever the window is: the slot that comes is counted, and the one that leaves the window is counted no more. No
 // public function has a `requires`, and nothing is assumed.
+#![tactic(auto)]
+
 ghost use Rattle.std.specs.Prelude.{◌≡◌, ◌++◌, ◌<◌, ◌≤◌, drop, length};
 ghost use Rattle.line.specs.Numbers.{most_window};
 ghost use Rattle.logs.specs.Frames.{stray_in};
@@ -72,6 +74,7 @@ fn leaving(w: usize, slots: &[u32], place: usize) -> u32
 }
 
 // One figure more.
+#[tactic(auto, unfolding(crate::specs::Counting::higher_of))]
 fn higher(most: Most, figure: u32, place: usize) -> Most
     ensures { result ≡ higher_of most figure place }
 {

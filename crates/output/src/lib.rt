@@ -1,5 +1,7 @@
 // What a unit puts on the line next, and what a frame sees of the unit. No public function has a `requires`, and
 // nothing is assumed.
+#![tactic(auto)]
+
 ghost use Rattle.std.specs.Prelude.{◌≡◌};
 ghost use Rattle.rules.specs.Slots.{core_drive};
 ghost use Rattle.rules.specs.State.{takes_part, view_of};
@@ -27,6 +29,7 @@ pub fn view(regs: Registers, clear: bool) -> View
 }
 
 // A request stands and does not hold back: "a read request holds back while RBF is not empty".
+#[tactic(auto, unfolding(rules::specs::State::takes_part))]
 pub fn takes_part(regs: Registers, clear: bool) -> bool
     ensures { result ≡ takes_part regs clear }
 {
@@ -35,6 +38,7 @@ pub fn takes_part(regs: Registers, clear: bool) -> bool
 
 // What the unit drives in the next slot: "0, 1 (released) or 2 (start)". "With MARQ set and idle as the latest slot,
 // the unit drives start".
+#[tactic(auto, unfolding(rules::specs::Slots::core_drive))]
 pub fn core_drive(core: Core, clear: bool) -> u8
     ensures { result ≡ core_drive core clear }
 {

@@ -2,6 +2,8 @@
 // reads a record and hands its two numbers on, and the others pass the list to it and what was gathered to the core.
 // Functions over a lent slice of structs are proved by a walk, so they stay thin (docs/DECISIONS.md, "Forms"). No
 // public function has a `requires`, and nothing is assumed.
+#![tactic(auto)]
+
 ghost use Rattle.std.specs.Prelude.{◌≡◌, ◌<◌, min, length};
 ghost use Rattle.line.specs.Numbers.{most_contenders};
 ghost use Rattle.contenders.specs.Contest.{Contested, NamedRightly, verdict_of};

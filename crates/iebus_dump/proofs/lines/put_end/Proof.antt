@@ -4,7 +4,7 @@ use native.Mathlib.Omega.{arith}
 use lib.Dec.{eqb}
 use lib.ListN.{take, drop}
 use Rattle.pieces.proofs.Pieces.{named, then}
-use Rattle.iebus_dump.proofs.Tables.{ending_at, mark_by, mark_table, places_rise}
+use Rattle.iebus_dump.proofs.Tables.{ending-at, mark_by, mark_table, places_rise}
 use borrow.Author.Rules.{rules}
 use Rattle.iebus_dump.proofs.lines.put_end.Statement.{statement}
 use Rattle.iebus_dump.proofs.lines.put_end.Tie as tie
@@ -37,5 +37,5 @@ put-end-spec =
     let mark =
     ap (λ (n : ℕ). take (8 - n) (drop n mark_table)) again ∙ mark_by (eqb (entry.args.first / 0x10 % 2) 1)
     in
-    then (named first.put.ensures (ending_at (entry.args.first % 16) (omega arith)))
+    then (named first.put.ensures (ending-at (entry.args.first % 16) (omega arith)))
     (named c.before.before.put2.ensures mark)))

@@ -4,7 +4,7 @@ use native.Mathlib.Omega.{arith}
 use lib.ListN.{take, drop}
 use Rattle.pieces.proofs.Pieces.{named, then}
 use Rattle.iebus_dump.proofs.Digits.{fields_made}
-use Rattle.iebus_dump.proofs.Tables.{name_by, name_table}
+use Rattle.iebus_dump.proofs.Tables.{name-by, name_table}
 use Rattle.iebus_dump.specs.Line.{fields_of}
 use borrow.Author.Rules.{rules}
 use Rattle.iebus_dump.proofs.lines.put_fields.Statement.{statement}
@@ -46,7 +46,7 @@ put-fields-spec =
     let name =
     ap (λ (n : ℕ). take n (drop named-at.name-place.result name_table)) wide
     ∙ ap (λ (n : ℕ). take 13 (drop n name_table)) named-at.name-place.ensures.0
-    ∙ name_by given control (omega arith)
+    ∙ name-by given control (omega arith)
     in
     named
     (then (then (then first.put.ensures second.put2.ensures) third.put3.ensures)

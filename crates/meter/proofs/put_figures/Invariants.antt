@@ -1,0 +1,13 @@
+use borrow.Author.Rules.{rules}
+use native.Mathlib.Omega.{arith}
+use Prim.Native.Nat.{◌-◌}
+use lib.ListN.{get_or, length}
+use Rattle.loads.proofs.Windows.{busy_le}
+use Rattle.meter.proofs.Loops.{Written, figure_is, left_counted, written_all, written_none, written_one}
+use Rattle.meter.proofs.put_figures.Given as goal
+
+abbrev pub invariant-loop-i : goal.invariant-loop-i
+invariant-loop-i l = Written l.w l.slots l.initial.figures l.figures l.count l.most.largest l.most.place l.i
+
+abbrev pub decreases-loop-i : goal.decreases-loop-i
+decreases-loop-i l = length l.slots - l.i
