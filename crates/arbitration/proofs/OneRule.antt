@@ -181,7 +181,7 @@ module _ (ms os : List State) (bs : Each (Begins true) ms) (cs : Each (Begins fa
       own_settle k 13 h (omega arith) (fed drive_start (ms ++ os)) (stands_started ms os bs cs) (started reset) p
       (omega arith) (winner_leads (suc k) h)
       ∙ ap (level_of (contest_slots - suc k))
-      (ap number (ListN.get_or_map started (ms ++ os) p reset)
+      (ap number (ListN.get_or-map started (ms ++ os) p reset)
       ∙ ap number_of (start_same (get_or (ms ++ os) p reset) ∙ ap contender_of (get_or-append ms os reset p within)
       ∙ sym (get_or_map contender_of ms p reset nobody within)))
 

@@ -187,7 +187,7 @@ own_settle zero (suc n) lt h ss ts d i l e =
     let long : length (fed w ss) ≡ length ss = length-map ss (λ (s : State). step_of s w) in
     let last : n ≡ suc n - 1 = omega arith in
     own_settles n (omega arith) ss ts d i l
-    (ap leads (sym (ListN.get_or_map (λ (s : State). step_of s w) ss i d))
+    (ap leads (sym (ListN.get_or-map (λ (s : State). step_of s w) ss i d))
     ∙ sym (get_or_map leads (fed w ss) i (step_of d w) false (omega arith)) ∙ e)
     ∙ ap (λ (m : ℕ). level_of m (number (get_or ss i d))) last
 own_settle (suc k) (suc n) lt h ss ts d i l e =
@@ -197,5 +197,5 @@ own_settle (suc k) (suc n) lt h ss ts d i l e =
     let slot : n - suc k ≡ suc n - suc (suc k) = omega arith in
     own_settle k n (omega arith) (omega arith) (fed w ss) (stands_fed n w ss ps) (step_of d w) i (omega arith) e
     ∙ ap₂ level_of slot
-    (ap number (ListN.get_or_map (λ (s : State). step_of s w) ss i d)
+    (ap number (ListN.get_or-map (λ (s : State). step_of s w) ss i d)
     ∙ ap number_of (each_at (Steps n w) ss ps d i l).same)

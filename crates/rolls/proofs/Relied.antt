@@ -44,21 +44,21 @@ kept_either r after roll same =
 judged : (out other : Bool) (r : Change) → out ≡ false → other ≡ false → pick out OutOfRange (pick other BadSize r) ≡ r
 judged out other r right size = rw (right, size) refl
 
-out_of_range : (c : Contender) → out_of_range c ≡ true → Ranged c → ⊥
-out_of_range c out r = false≢true (sym (range_true c r) ∙ out)
+out-of-range : (c : Contender) → out_of_range c ≡ true → Ranged c → ⊥
+out-of-range c out r = false≢true (sym (range_true c r) ∙ out)
 
 module _ (bytes : List ℕ) where
   joins_in : length bytes ≡ roll_bytes → (c : Contender) → join_end_in c bytes ≡ join_end c (roll_in bytes)
   unfolding join_end_in
   joins_in size c =
-      ⊎_elim (λ out. rw (out) (sym ((joins c (roll_in bytes)).out_of_range (out_of_range c out))))
+      ⊎_elim (λ out. rw (out) (sym ((joins c (roll_in bytes)).out_of_range (out-of-range c out))))
       (λ right. judged (out_of_range c) (other_size bytes) _ right (right_size bytes size))
       (either (out_of_range c))
 
   leaves_in : length bytes ≡ roll_bytes → (c : Contender) → leave_end_in c bytes ≡ leave_end c (roll_in bytes)
   unfolding leave_end_in
   leaves_in size c =
-      ⊎_elim (λ out. rw (out) (sym ((leaves c (roll_in bytes)).out_of_range (out_of_range c out))))
+      ⊎_elim (λ out. rw (out) (sym ((leaves c (roll_in bytes)).out_of_range (out-of-range c out))))
       (λ right. judged (out_of_range c) (other_size bytes) _ right (right_size bytes size))
       (either (out_of_range c))
 

@@ -14,6 +14,7 @@ use place::{Field, Frame, Place};
 use rules::state::{Act, Acted, Core};
 
 // "Codes, in the order started, data wanted or full, normal, aborted": the code of an end, from that of the start.
+#[tactic(auto, unfolding(rules::specs::Endings::end_code))]
 fn end_code(started: u8, whole: bool) -> u8
     requires { started ≤ 8 }
     ensures { result ≡ end_code started whole }
@@ -25,6 +26,7 @@ fn end_code(started: u8, whole: bool) -> u8
 }
 
 // "Receptions at length accepted": the code with which one starts.
+#[tactic(auto, unfolding(rules::specs::Endings::reception_code))]
 pub(crate) fn reception_code(frame: Frame) -> u8
     ensures { (result ≡ reception_code frame) × (result ≤ 8) }
 {
@@ -35,6 +37,7 @@ pub(crate) fn reception_code(frame: Frame) -> u8
 }
 
 // What is sent comes from TBF: a master's, and a slave's with 3H or 7H.
+#[tactic(auto, unfolding(rules::specs::Endings::draws))]
 pub(crate) fn draws_bytes(frame: Frame) -> bool
     ensures { result ≡ draws frame }
 {
@@ -42,6 +45,7 @@ pub(crate) fn draws_bytes(frame: Frame) -> bool
 }
 
 // 3H, AH and BH lock and unlock; "broadcasts do neither".
+#[tactic(auto, unfolding(rules::specs::Endings::ties))]
 fn ties_lock(frame: Frame) -> bool
     ensures { result ≡ ties frame }
 {
@@ -49,6 +53,7 @@ fn ties_lock(frame: Frame) -> bool
 }
 
 // "6H unlocks when its byte is ACKed."
+#[tactic(auto, unfolding(rules::specs::Endings::frees))]
 fn frees_lock(frame: Frame, whole: bool) -> bool
     ensures { result ≡ frees frame whole }
 {
@@ -57,6 +62,7 @@ fn frees_lock(frame: Frame, whole: bool) -> bool
 
 // "Once 3H, AH or BH has its length ACKed, the frame's end before all bytes are ACKed locks to its master; all bytes
 // ACKed unlocks. 6H unlocks when its byte is ACKed."
+#[tactic(auto, unfolding(rules::specs::Endings::lock_after))]
 fn lock_after(mut core: Core, whole: bool) -> Core
     ensures { result ≡ core·regs (lock_after core.frame whole core.regs) core }
 {
@@ -80,6 +86,7 @@ fn lock_after(mut core: Core, whole: bool) -> Core
 }
 
 // A master's request has ended: "normal or aborted clears MARQ ..; the end of a sending request empties TBF".
+#[tactic(auto, unfolding(rules::specs::Endings::request_ended))]
 pub(crate) fn request_ended(mut core: Core, whole: bool) -> Acted
     ensures { result ≡ request_ended core whole }
 {
@@ -97,6 +104,7 @@ pub(crate) fn request_ended(mut core: Core, whole: bool) -> Acted
 }
 
 // A slave's sending from TBF has ended: ".. STRQ ..".
+#[tactic(auto, unfolding(rules::specs::Endings::sending_ended))]
 fn sending_ended(mut core: Core, whole: bool) -> Acted
     ensures { result ≡ sending_ended core whole }
 {
@@ -107,6 +115,7 @@ fn sending_ended(mut core: Core, whole: bool) -> Acted
 }
 
 // A slave's reception has ended: ".. or SLRE".
+#[tactic(auto, unfolding(rules::specs::Endings::reception_ended))]
 fn reception_ended(mut core: Core, whole: bool) -> Acted
     ensures { result ≡ reception_ended core whole }
 {
@@ -118,6 +127,7 @@ fn reception_ended(mut core: Core, whole: bool) -> Acted
 }
 
 // A slave's part in the data has ended.
+#[tactic(auto, unfolding(rules::specs::Endings::part_ended))]
 fn part_ended(core: Core, whole: bool) -> Acted
     ensures { result ≡ part_ended core whole }
 {
@@ -131,6 +141,7 @@ fn part_ended(core: Core, whole: bool) -> Acted
     reception_ended(core, whole)
 }
 
+#[tactic(auto, unfolding(rules::specs::Endings::data_ended))]
 fn data_ended(core: Core, whole: bool) -> Acted
     ensures { result ≡ data_ended core whole }
 {
@@ -138,6 +149,7 @@ fn data_ended(core: Core, whole: bool) -> Acted
 }
 
 // A slave's part in the length has ended: only a sending has begun.
+#[tactic(auto, unfolding(rules::specs::Endings::length_ended))]
 fn length_ended(core: Core) -> Acted
     ensures { result ≡ length_ended core }
 {
@@ -166,6 +178,7 @@ fn slave_ended(place: Place, core: Core, whole: bool) -> Acted
 
 // "Ended before all bytes are ACKed, it aborts the request of a master in it that has not lost, .. and any sending or
 // reception begun." The frame is as it was before it ended.
+#[tactic(auto, unfolding(rules::specs::Endings::ended_of))]
 pub(crate) fn ended(core: Core, whole: bool) -> Acted
     ensures { result ≡ ended_of core whole }
 {
@@ -179,6 +192,7 @@ pub(crate) fn ended(core: Core, whole: bool) -> Acted
 }
 
 // The frame has ended, or the unit has done its part.
+#[tactic(auto, unfolding(rules::specs::Endings::left_of))]
 pub(crate) fn left(mut acted: Acted, frame: Frame) -> Acted
     ensures { result ≡ left_of acted frame }
 {
@@ -189,6 +203,7 @@ pub(crate) fn left(mut acted: Acted, frame: Frame) -> Acted
 }
 
 // "Start or idle inside a frame ends it there".
+#[tactic(auto, unfolding(rules::specs::Endings::cut_of))]
 pub(crate) fn cut(core: Core) -> Acted
     ensures { result ≡ cut_of core }
 {

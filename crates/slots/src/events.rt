@@ -13,6 +13,7 @@ use place::{Event, Frame};
 use rules::state::{Act, Acted, Core, Seen};
 
 // "After the first attempt and MCR's retries all lost, the request is aborted."
+#[tactic(auto, unfolding(rules::specs::Slots::on_lost))]
 fn on_lost(mut core: Core) -> Acted
     ensures { result ≡ on_lost core }
 {
@@ -26,6 +27,7 @@ fn on_lost(mut core: Core) -> Acted
 }
 
 // "Master sending starts with the P slot of its own address".
+#[tactic(auto, unfolding(rules::specs::Slots::on_addressed))]
 fn on_addressed(mut core: Core) -> Core
     ensures { result ≡ on_addressed core }
 {
@@ -39,6 +41,7 @@ fn on_addressed(mut core: Core) -> Core
 }
 
 // A code of the sending or reception under way: MARC for a master, SLRC for a slave.
+#[tactic(auto, unfolding(rules::specs::Slots::with_code))]
 fn with_code(mut core: Core, code: u8) -> Core
     ensures { result ≡ with_code core code }
 {
@@ -52,6 +55,7 @@ fn with_code(mut core: Core, code: u8) -> Core
 }
 
 // "Slave sending at control ACK".
+#[tactic(auto, unfolding(rules::specs::Slots::sending_begun))]
 fn sending_begun(mut core: Core) -> Core
     ensures { result ≡ sending_begun core }
 {
@@ -64,6 +68,7 @@ fn sending_begun(mut core: Core) -> Core
 }
 
 // "The length and each byte leave TBF as their field first begins."
+#[tactic(auto, unfolding(rules::specs::Slots::length_drawn))]
 fn length_drawn(mut core: Core, front: u8) -> Acted
     ensures { result ≡ length_drawn core front }
 {
@@ -74,6 +79,7 @@ fn length_drawn(mut core: Core, front: u8) -> Acted
 }
 
 // The length field begins: of TBF, or "length 1 and the status byte".
+#[tactic(auto, unfolding(rules::specs::Slots::on_control_acked))]
 fn on_control_acked(mut core: Core, seen: Seen) -> Acted
     ensures { result ≡ on_control_acked core seen }
 {
@@ -90,12 +96,14 @@ fn on_control_acked(mut core: Core, seen: Seen) -> Acted
 }
 
 // "Wanted comes when TBF is then empty with bytes to follow".
+#[tactic(auto, unfolding(rules::specs::Slots::wanted, place::specs::Step::whole_of))]
 fn data_wanted(frame: Frame, seen: Seen) -> bool
     ensures { result ≡ wanted frame seen }
 {
     (seen.waiting <= 1) & !(frame.length <= frame.acked % 512 + 1)
 }
 
+#[tactic(auto, unfolding(rules::specs::Slots::byte_drawn))]
 fn byte_drawn(mut core: Core, seen: Seen) -> Acted
     ensures { result ≡ byte_drawn core seen }
 {
@@ -107,6 +115,7 @@ fn byte_drawn(mut core: Core, seen: Seen) -> Acted
     acting(core, Act::Take)
 }
 
+#[tactic(auto, unfolding(rules::specs::Slots::other_party))]
 fn other_party(frame: Frame) -> u16
     ensures { result ≡ other_party frame }
 {
@@ -118,6 +127,7 @@ fn other_party(frame: Frame) -> u16
 
 // "A reception puts three bytes into RBF when length is accepted: other party's address high 8, low 4 with control,
 // length".
+#[tactic(auto, unfolding(rules::specs::Slots::header_of))]
 fn header(frame: Frame) -> Act
     ensures { result ≡ header_of frame }
 {
@@ -132,6 +142,7 @@ fn header(frame: Frame) -> Act
 }
 
 // "The RDR becomes 3 and grows by 1 per byte (RDR1 master, RDR2 slave and broadcast ..)".
+#[tactic(auto, unfolding(rules::specs::Slots::with_count))]
 fn with_count(mut core: Core, n: u8) -> Core
     ensures { result ≡ with_count core n }
 {
@@ -144,6 +155,7 @@ fn with_count(mut core: Core, n: u8) -> Core
     core
 }
 
+#[tactic(auto, unfolding(rules::specs::Slots::count_of))]
 fn count(core: Core) -> u8
     ensures { result ≡ count_of core }
 {
@@ -155,6 +167,7 @@ fn count(core: Core) -> u8
     regs.rdr2
 }
 
+#[tactic(auto, unfolding(rules::specs::Slots::reception_begun))]
 fn reception_begun(core: Core) -> Acted
     ensures { result ≡ reception_begun core }
 {
@@ -164,6 +177,7 @@ fn reception_begun(core: Core) -> Acted
 }
 
 // The first data field begins.
+#[tactic(auto, unfolding(rules::specs::Slots::on_length_acked))]
 fn on_length_acked(mut core: Core, seen: Seen) -> Acted
     ensures { result ≡ on_length_acked core seen }
 {
@@ -181,6 +195,7 @@ fn on_length_acked(mut core: Core, seen: Seen) -> Acted
 }
 
 // One byte more.
+#[tactic(auto, unfolding(rules::specs::Slots::counted))]
 fn count_more(core: Core) -> Core
     ensures { result ≡ counted core }
 {
@@ -189,6 +204,7 @@ fn count_more(core: Core) -> Core
 }
 
 // "If TBF is empty when that byte is ACKed, sending aborts".
+#[tactic(auto, unfolding(rules::specs::Slots::next_drawn))]
 fn next_drawn(core: Core, seen: Seen) -> Acted
     ensures { result ≡ next_drawn core seen }
 {
@@ -199,6 +215,7 @@ fn next_drawn(core: Core, seen: Seen) -> Acted
 }
 
 // The next data field begins.
+#[tactic(auto, unfolding(rules::specs::Slots::on_byte_acked))]
 fn on_byte_acked(core: Core, byte: u8, seen: Seen) -> Acted
     ensures { result ≡ on_byte_acked core byte seen }
 {
@@ -213,6 +230,7 @@ fn on_byte_acked(core: Core, byte: u8, seen: Seen) -> Acted
 }
 
 // The frame ends with a byte ACKed, the last one or not. The frame is as it was before it ended.
+#[tactic(auto, unfolding(rules::specs::Slots::last_acked))]
 fn last_acked(core: Core, byte: u8, whole: bool) -> Acted
     ensures { result ≡ last_acked core byte whole }
 {
@@ -226,6 +244,7 @@ fn last_acked(core: Core, byte: u8, whole: bool) -> Acted
 }
 
 // What an event brings about, from the unit before the slot and the frame after it.
+#[tactic(auto, unfolding(rules::specs::Slots::on_event))]
 pub(crate) fn on_event(event: Event, core: Core, next: Frame, seen: Seen) -> Acted
     ensures { result ≡ on_event event core next seen }
 {

@@ -1,5 +1,7 @@
 // What a slot does to the scalars of a unit and, as a value, to its buffers. The public function has no `requires`, and
 // nothing is assumed.
+#![tactic(auto)]
+
 ghost use Rattle.std.specs.Prelude.{◌≡◌};
 ghost use Rattle.place.specs.Frame.{begun_of, limit_of};
 ghost use Rattle.rules.specs.Slots.{on_idle, on_level, on_slot, on_start};
@@ -19,6 +21,7 @@ mod events;
 mod state;
 
 // "At most 16 attempts (mode 0) or 32 (mode 1)".
+#[tactic(auto, unfolding(place::specs::Frame::limit_of))]
 fn limit(long: bool) -> u8
     ensures { result ≡ limit_of long }
 {
@@ -29,6 +32,7 @@ fn limit(long: bool) -> u8
 }
 
 // "A start slot always begins a frame": whether the unit takes part as a master, and the mode then.
+#[tactic(auto, unfolding(place::specs::Frame::begun_of))]
 fn begun(leads: bool, long: bool) -> Frame
     ensures { result ≡ begun_of leads long }
 {
@@ -44,6 +48,7 @@ fn begun(leads: bool, long: bool) -> Frame
 }
 
 // "A start slot always begins a frame", from the state that the old frame's end left.
+#[tactic(auto, unfolding(rules::specs::Slots::on_start, rules::specs::Slots::begun))]
 fn on_start(core: Core, clear: bool) -> Acted
     ensures { result ≡ on_start core clear }
 {
@@ -57,6 +62,7 @@ fn on_start(core: Core, clear: bool) -> Acted
     after
 }
 
+#[tactic(auto, unfolding(rules::specs::Slots::on_idle))]
 fn on_idle(core: Core) -> Acted
     ensures { result ≡ on_idle core }
 {
@@ -65,6 +71,7 @@ fn on_idle(core: Core) -> Acted
     after
 }
 
+#[tactic(auto, unfolding(rules::specs::Slots::on_level))]
 fn on_level(mut core: Core, bit: bool, seen: Seen) -> Acted
     ensures { result ≡ on_level core bit seen }
 {

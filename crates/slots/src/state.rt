@@ -7,6 +7,7 @@ use rules::state::{Act, Acted, Core, Registers};
 
 // "The status byte has bit 0 STRQ, bit 1 .., bit 2 locked, bit 4 sending enabled, bits 7-6 = 10"; ticket 2: "bit 1 is 0
 // when SLRE is set and RBF is empty, and otherwise 1".
+#[tactic(auto, unfolding(rules::specs::State::status_byte))]
 fn status_byte(regs: Registers, clear: bool) -> u8
     ensures { result ≡ status_byte regs clear }
 {
@@ -15,6 +16,7 @@ fn status_byte(regs: Registers, clear: bool) -> u8
 }
 
 // The byte that a slave sends of itself: the holder's low 8 bits with 4H, its high 4 with 5H, or the status.
+#[tactic(auto, unfolding(rules::specs::State::own_byte))]
 pub(crate) fn own_byte(regs: Registers, control: u8, clear: bool) -> u8
     ensures { result ≡ own_byte regs control clear }
 {

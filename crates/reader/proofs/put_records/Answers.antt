@@ -56,6 +56,10 @@ pub shape_of-records : goal.shape_of-records
 shape_of-records c =
     c.loop-at.invariant.filled.long
 
-pub returns : goal.returns
-returns c =
-    so_far_all c.loop-at.invariant c.loop-at-test.false c.requires
+pub returns-clause-value : goal.returns-clause-value
+returns-clause-value c =
+    (so_far_all c.loop-at.invariant c.loop-at-test.false c.requires).0
+
+pub returns-clause-records_after : goal.returns-clause-records_after
+returns-clause-records_after c =
+    (so_far_all c.loop-at.invariant c.loop-at-test.false c.requires).1

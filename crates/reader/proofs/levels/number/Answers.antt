@@ -3,13 +3,13 @@ use mathlib.Core.Path.{◌≡◌}
 use native.Mathlib.Omega.{arith}
 use Prim.Native.Nat.{◌+◌, ◌-◌, ◌<◌, ◌≤◌}
 use Rattle.reader.proofs.Slots.{Counted, counted_fits, counted_none, counted_one}
+use Rattle.reader.proofs.levels.number.Goals.{In-loop-i}
 use Rattle.reader.proofs.levels.number.Goals as goal
 
 -- a number of fewer bits than the whole one
-fits : (c : tie.In-loop invariant-loop decreases-loop) → c.before.loop.n < 4096
+fits : (c : In-loop-i) → c.loop-i.n < 4096
 fits c =
-    let now = c.before.loop in
-    counted_fits now.invariant.1 (omega (arith, now.invariant.0, c.before.before.requires.1))
+    counted_fits c.loop-i.invariant.1 (omega (arith, c.loop-i.invariant.0, c.requires.1))
 
 pub loop-i-init : goal.loop-i-init
 loop-i-init c =
@@ -17,11 +17,11 @@ loop-i-init c =
 
 pub overflow_mul-n : goal.overflow_mul-n
 overflow_mul-n c =
-    omega (arith, fits ‹PLACE In-loop›)
+    omega (arith, fits (goal.at.overflow_mul-n c).In-loop-i)
 
 pub overflow_add-n-in-loop-i : goal.overflow_add-n-in-loop-i
 overflow_add-n-in-loop-i c =
-    omega (arith, fits ‹PLACE In-loop›, c.requires.2 (c.args.from + c.loop-i.i))
+    omega (arith, fits (goal.at.overflow_add-n-in-loop-i c).In-loop-i, c.requires.2 (c.args.from + c.loop-i.i))
 
 pub loop-i-preserved : goal.loop-i-preserved
 loop-i-preserved c =

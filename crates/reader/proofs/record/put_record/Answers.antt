@@ -3,22 +3,19 @@ use native.Mathlib.Omega.{arith}
 use Rattle.reader.proofs.Records.{Putting, entry_fits, first_fits, front_fits, front_most, front_two_most}
 use Rattle.reader.proofs.Records.{record_put, stands_middle}
 use Rattle.reader.proofs.record.put_record.Goals as goal
+use Rattle.reader.proofs.record.put_record.Goals.{After-put_data-body}
 
 -- the record that is being put once its bytes are written
-module _ (c : tie.After-put-data) where
-  abbrev start : tie.Start
-  start = c.before.before.before.before.before.before
-
-  putting : Putting start.args.long start.args.levels.now start.args.at start.args.records.now
-      c.before.before.before.head_of.result c.before.before.front-words.result c.put-data.result
-      c.put-data.new.1.1.1.0
+module _ (c : After-put_data-body) where
+  putting : Putting c.args.long c.args.levels.now c.args.at c.args.records.now c.head_of-head.result
+      c.front_words.result c.put_data-body.result c.put_data-body.new.records
   putting =
       record {
-        low = start.pre.0.0;
-        room = start.pre.0.1;
-        is_head = c.before.before.before.head_of.ensures;
-        is_front = c.before.before.front-words.ensures;
-        wrote = c.put-data.ensures;
+        low = c.requires.low.0;
+        room = c.requires.low.1;
+        is_head = c.head_of-head.ensures;
+        is_front = c.front_words.ensures;
+        wrote = c.put_data-body.ensures;
       }
 
 pub overflow_add-bytes : goal.overflow_add-bytes
@@ -37,23 +34,23 @@ put_data-body-requires-clause-levels_bound c =
 
 pub entry_of-entry-requires : goal.entry_of-entry-requires
 entry_of-entry-requires c =
-    entry_fits (putting ‹PLACE After-put_data›)
+    entry_fits (putting (goal.at.entry_of-entry-requires c).After-put_data-body)
 
 pub alike-again-requires : goal.alike-again-requires
 alike-again-requires c =
-    let inside = (stands_middle (putting ‹PLACE After-put_data-arg›)).inside in
-    rw c.entry_of.ensures (omega (arith, inside, (start ‹PLACE After-put_data-arg›).requires.1), inside)
+    let inside = (stands_middle (putting (goal.at.alike-again-requires c).After-put_data-body)).inside in
+    rw c.entry_of-entry.ensures (omega (arith, inside, c.requires.before_bound), inside)
 
 pub first_word-requires : goal.first_word-requires
 first_word-requires c =
-    rw c.entry_of.ensures (first_fits (putting ‹PLACE After-put_data-arg›))
+    rw c.entry_of-entry.ensures (first_fits (putting (goal.at.first_word-requires c).After-put_data-body))
 
 pub put_front-requires : goal.put_front-requires
 put_front-requires c =
-    rw c.entry_of.ensures (front_fits (putting ‹PLACE After-put_data-arg›))
+    rw c.entry_of-entry.ensures (front_fits (putting (goal.at.put_front-requires c).After-put_data-body))
 
 pub returns : goal.returns
 returns c =
-    record_put (putting ‹PLACE After-put_data-arg›) c.entry_of.ensures (start ‹PLACE After-put_data-arg›).args.before c.alike-again.result
-    (start ‹PLACE After-put_data-arg›).requires.1 c.alike-again.ensures
+    record_put (putting (goal.at.returns c).After-put_data-body) c.entry_of-entry.ensures c.args.before c.alike-again.result
+    c.requires.before_bound c.alike-again.ensures
     c.first_word.ensures c.put_front.ensures

@@ -1,0 +1,8 @@
+use Rattle.place.specs.Frame.{begun_of}
+use borrow.Author.Rules.{rules}
+use Rattle.slots.proofs.begun.Goals as goal
+
+pub returns : goal.returns
+unfolding begun_of
+returns c =
+    simp (c.limit-most.ensures, c.none-frame.ensures)

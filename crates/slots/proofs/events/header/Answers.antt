@@ -1,0 +1,8 @@
+use Rattle.rules.specs.Slots.{header_of}
+use borrow.Author.Rules.{rules}
+use Rattle.slots.proofs.events.header.Goals as goal
+
+pub returns : goal.returns
+unfolding header_of
+returns c =
+    simp c.other_party-party.ensures

@@ -1,0 +1,8 @@
+use Rattle.rules.specs.Slots.{length_drawn}
+use borrow.Author.Rules.{rules}
+use Rattle.slots.proofs.events.length_drawn.Goals as goal
+
+pub returns : goal.returns
+unfolding length_drawn
+returns c =
+    simp (c.acting.ensures, c.with_length-drawn.ensures)

@@ -1,0 +1,14 @@
+use Rattle.rules.specs.Slots.{reception_begun}
+use borrow.Author.Rules.{rules}
+use Rattle.slots.proofs.events.reception_begun.Goals as goal
+
+pub returns : goal.returns
+unfolding reception_begun
+returns c =
+    simp (
+      c.acting.ensures,
+      c.with_count.ensures,
+      c.with_code.ensures,
+      c.reception_code.ensures.0,
+      ← c.header-act.ensures,
+    )

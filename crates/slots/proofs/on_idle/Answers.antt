@@ -1,0 +1,8 @@
+use Rattle.rules.specs.Slots.{on_idle}
+use borrow.Author.Rules.{rules}
+use Rattle.slots.proofs.on_idle.Goals as goal
+
+pub returns : goal.returns
+unfolding on_idle
+returns c =
+    simp c.cut-after.ensures
