@@ -5,6 +5,8 @@
 // Only the first 16,384 words are read. A frame that goes on behind them is shown as cut there, and the last line is
 // `more`; a log may be read on from that frame's start word. A log that is refused has neither `more` nor `short`. The
 // status is 0 whatever the log is.
+#![tactic(auto)]
+
 ghost use Rattle.std.specs.Prelude.{◌≡◌, ◌++◌, ◌≤◌, length, drop};
 ghost use Rattle.iebus_dump.specs.Dump.{dump_bytes, dump_of, whole_of};
 

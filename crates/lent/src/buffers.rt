@@ -59,6 +59,7 @@ pub(crate) fn count_of(room: usize, span: Span) -> usize
 }
 
 // Whether none is.
+#[tactic(auto, unfolding(rules::specs::State::is_empty))]
 pub(crate) fn is_clear(room: usize, span: Span) -> bool
     ensures { Clear room span result }
 {
@@ -136,6 +137,7 @@ pub(crate) fn rbf_push(bytes: &mut [u8; RBF_BYTES], mut span: Span, byte: u8) ->
 }
 
 // What a slot does to TBF.
+#[tactic(auto, unfolding(circles::specs::Buffers::sent_by))]
 pub(crate) fn tbf_after(act: Act, span: Span) -> Span
     ensures { Sends act span result }
 {
@@ -149,6 +151,7 @@ pub(crate) fn tbf_after(act: Act, span: Span) -> Span
 }
 
 // What a slot does to RBF.
+#[tactic(auto, unfolding(circles::specs::Buffers::stored_by))]
 pub(crate) fn rbf_after(act: Act, bytes: &mut [u8; RBF_BYTES], span: Span) -> Span
     ensures { buffer bytes.new result
         ≡ turns rbf_bytes (buffer bytes.old span) (stored_by act) }

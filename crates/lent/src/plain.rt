@@ -11,6 +11,7 @@ use place::{Field, Frame, Place};
 use rules::answer::{Answer, Reply};
 
 // A bit of a field that is shifted in: not the broadcast bit, P or A.
+#[tactic(auto, unfolding(crate::specs::Plain::inside_of))]
 fn inside(field: Field, n: u8) -> bool
     ensures { result ≡ inside_of field n }
 {
@@ -25,6 +26,7 @@ fn inside(field: Field, n: u8) -> bool
 }
 
 // The next level is only listened to.
+#[tactic(auto, unfolding(crate::specs::Plain::plain_of))]
 pub(crate) fn plain(frame: Frame) -> bool
     ensures { result ≡ plain_of frame }
 {
@@ -37,6 +39,7 @@ pub(crate) fn plain(frame: Frame) -> bool
 }
 
 // The next level is a bit of a field, whoever sends it.
+#[tactic(auto, unfolding(crate::specs::Plain::amid_of))]
 fn amid(frame: Frame) -> bool
     ensures { result ≡ amid_of frame }
 {
@@ -48,6 +51,7 @@ fn amid(frame: Frame) -> bool
     }
 }
 
+#[tactic(auto, unfolding(crate::specs::Plain::listened_of))]
 fn listened(frame: Frame, bit: bool) -> Frame
     ensures { result ≡ listened_of frame bit }
 {

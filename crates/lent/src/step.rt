@@ -52,6 +52,7 @@ impl Lent {
     }
 
     // What the unit drives in the next slot: 0, 1 (released) or 2 (start).
+    #[tactic(auto, unfolding(rules::specs::Step::next_drive))]
     pub(crate) fn drive(self) -> u8
         ensures { Drives self result }
     {
@@ -97,6 +98,7 @@ impl Lent {
     }
 
     // Number 5: "level 1 while the unit drives 0".
+    #[tactic(auto, unfolding(rules::specs::Step::clashes))]
     fn clash(self, bit: bool) -> bool
         ensures { Clashes self bit result }
     {
@@ -104,6 +106,7 @@ impl Lent {
     }
 
     // The number by which a slot word is refused, or 0.
+    #[tactic(auto, unfolding(crate::specs::Both::slot_refusal))]
     fn slot_refusal(self, slot: Slot) -> u8
         ensures { SlotRefuses self slot result }
     {

@@ -1,4 +1,2 @@
 pub mod Lists
 pub mod Words
-pub mod Walking
-pub mod Passing

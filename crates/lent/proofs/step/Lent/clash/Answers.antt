@@ -1,0 +1,9 @@
+use mathlib.Core.Path.{refl}
+use Rattle.rules.specs.Step.{clashes}
+use borrow.Author.Rules.{rules}
+use Rattle.lent.proofs.step.Lent.clash.Goals as goal
+
+pub returns : goal.returns
+unfolding clashes
+returns c =
+    λ t r. rw (← c.drive.ensures t r) refl

@@ -1,0 +1,7 @@
+use mathlib.Core.Path.{refl}
+use borrow.Author.Rules.{rules}
+use Rattle.lent.proofs.step.Lent.slot_acted.Goals as goal
+
+pub returns : goal.returns
+returns c =
+    λ r. rw (c.on_slot.ensures, c.seen.ensures r) refl

@@ -1,0 +1,6 @@
+use borrow.Author.Rules.{rules}
+use Rattle.lent.proofs.step.Lent.took.Goals as goal
+
+pub returns : goal.returns
+returns c =
+    simp c.listened-next.ensures
