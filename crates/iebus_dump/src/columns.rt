@@ -62,6 +62,7 @@ pub(crate) fn route(place: u32, given: u8, master: u32, slave: u32) -> [u8; 18]
 }
 
 // To one or to all, and the digit of the control.
+#[tactic(auto, unfolding(crate::specs::Writing::kind_by, crate::specs::Line::bit_column))]
 pub(crate) fn kind(given: u8, bit: u32, control: u32) -> [u8; 6]
     ensures { result ≡ kind_by given bit control }
 {

@@ -34,6 +34,7 @@ fn acked(first: u32) -> usize
 }
 
 // The columns of the five fields.
+#[tactic(auto, unfolding(crate::specs::Line::fields_of))]
 fn put_fields(text: &mut [u8], at: usize, place: usize, first: u32, second: u32) -> usize
     requires { place < 16384 }
     ensures { Put text.old at (fields_of place (frame_by first second [])) result text.new }
@@ -91,6 +92,7 @@ fn put_end(text: &mut [u8], at: usize, first: u32) -> usize
 }
 
 // What is written for the word at a place: a line where it is a start.
+#[tactic(auto, unfolding(crate::specs::Writing::slot_line))]
 fn put_line(text: &mut [u8], at: usize, place: usize, slot: u32, words: &[u32]) -> usize
     requires { place < 16384 }
     ensures { Put text.old at (slot_line place slot words.now) result text.new }
@@ -107,6 +109,7 @@ fn put_line(text: &mut [u8], at: usize, place: usize, slot: u32, words: &[u32]) 
 }
 
 // How many words are then done with.
+#[tactic(auto, unfolding(crate::specs::Writing::used_by))]
 fn used(slot: u32, words: &[u32]) -> usize
     ensures { (result ≡ used_by slot words.now) × (result < 66) }
 {

@@ -30,6 +30,7 @@ const DUMP_BYTES: usize = 1310774;
 
 // The dump of an input goes to the front of the text, as far as there is room, and the rest of the text stays as it
 // was; the number says how long it is. DUMP_BYTES are room for all of it.
+#[tactic(auto, unfolding(crate::specs::Dump::dump_of))]
 fn dumped(long: bool, input: &[u8], text: &mut [u8]) -> usize
     ensures count { result ≡ length (dump_of long input.now (length text.old)) }
     ensures written { text.new ≡ dump_of long input.now (length text.old)

@@ -12,6 +12,7 @@ use words::WORD_BYTES;
 const MOST_BYTES: usize = 65536;
 
 // Which last line is printed, where a log was read so: `refused 16`, `more`, `short` or none.
+#[tactic(auto, unfolding(crate::specs::Writing::last_by))]
 pub(crate) fn last_number(read: LogRead, bytes: usize) -> usize
     ensures { (result ≡ last_by read bytes) × (result < 4) }
 {
@@ -44,6 +45,7 @@ pub(crate) fn shown(last: usize, count: usize) -> usize
 const LAST_PLACES: [usize; 5] = [0, 11, 16, 22, 22];
 
 // The header, the lines of the slots, whose records stand in the second list, and a last line.
+#[tactic(auto, unfolding(crate::specs::Writing::text_by))]
 pub(crate) fn put_dump(text: &mut [u8], last: usize, slots: &[u32], records: &[u32]) -> usize
     requires { (last < 4) × (length slots.now ≤ 16384) }
     ensures { Put text.old 0 (text_by last slots.now records.now) result text.new }
