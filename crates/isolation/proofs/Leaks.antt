@@ -12,7 +12,7 @@ use Rattle.line.specs.Choice.{pick, bit_of}
 use Rattle.line.specs.Slot.{Class, slot, host, class_of, slot_of}
 use Rattle.line.specs.declared.slot.Slot.TheVariants.{Level, Start, Idle, Stray}
 use Rattle.isolation.specs.Words.{levels, spells, from_master, framed, marks, spaced, marked, count, keeps, kept}
-use Rattle.isolation.specs.Runs.{Machine, Places, Protected, Given, Compared}
+use Rattle.isolation.specs.Runs.{Machine, Protected, Given, Compared}
 use Rattle.isolation.specs.Runs.{run, answers, shown, driven, latest}
 
 -- ---- lists

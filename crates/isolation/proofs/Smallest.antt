@@ -12,7 +12,7 @@ use Rattle.line.specs.Slot.{Class, slot, host, class_of, slot_of}
 use Rattle.line.specs.declared.slot.Slot.TheVariants.{Level, Start, Idle, Stray}
 use Rattle.isolation.specs.Words.{levels, spells, from_master, framed, marks, spaced, marked, count, keeps, kept}
 use Rattle.isolation.specs.Runs.{Machine, Places, Protected, Alike, Given, Compared}
-use Rattle.isolation.specs.Runs.{run, answers, driven, latest, shown}
+use Rattle.isolation.specs.Runs.{answers, driven, latest, shown}
 use Rattle.isolation.proofs.Leaks.{call, frame, is_start}
 use Rattle.isolation.proofs.Unwind.{protected}
 use Rattle.isolation.proofs.Unwinding.{Unwinding}

@@ -67,6 +67,7 @@ pub(crate) fn is_clear(room: usize, span: Span) -> bool
 }
 
 // Without the oldest byte; where there is none, as it was.
+#[tactic(auto, unfolding(circles::specs::Calls::popped))]
 pub(crate) fn without_oldest(room: usize, mut span: Span) -> Span
     requires { (1 < room) × (room ≤ rbf_bytes) }
     ensures { result ≡ popped room span }
@@ -83,6 +84,7 @@ pub(crate) fn without_oldest(room: usize, mut span: Span) -> Span
 }
 
 // The oldest byte of TBF; 0 where there is none.
+#[tactic(auto, unfolding(circles::specs::Circle::circle_of, circles::specs::Circle::items))]
 pub(crate) fn tbf_front(bytes: &[u8; TBF_BYTES], span: Span) -> u8
     ensures { result ≡ get_or (circle_of tbf_bytes bytes.now span) 0 0 }
 {
@@ -95,6 +97,7 @@ pub(crate) fn tbf_front(bytes: &[u8; TBF_BYTES], span: Span) -> u8
 }
 
 // A byte behind the others of TBF, where there is room.
+#[tactic(auto, unfolding(circles::specs::Calls::pushed))]
 pub(crate) fn tbf_push(bytes: &mut [u8; TBF_BYTES], mut span: Span, byte: u8) -> Span
     ensures { buffer bytes.new result ≡ pushed tbf_bytes (buffer bytes.old span) byte }
 {
@@ -110,6 +113,7 @@ pub(crate) fn tbf_push(bytes: &mut [u8; TBF_BYTES], mut span: Span, byte: u8) ->
 }
 
 // The oldest byte of RBF; 0 where there is none.
+#[tactic(auto, unfolding(circles::specs::Circle::circle_of, circles::specs::Circle::items))]
 pub(crate) fn rbf_front(bytes: &[u8; RBF_BYTES], span: Span) -> u8
     ensures { result ≡ get_or (circle_of rbf_bytes bytes.now span) 0 0 }
 {
@@ -122,6 +126,7 @@ pub(crate) fn rbf_front(bytes: &[u8; RBF_BYTES], span: Span) -> u8
 }
 
 // A byte behind the others of RBF, where there is room.
+#[tactic(auto, unfolding(circles::specs::Calls::pushed))]
 pub(crate) fn rbf_push(bytes: &mut [u8; RBF_BYTES], mut span: Span, byte: u8) -> Span
     ensures { buffer bytes.new result ≡ pushed rbf_bytes (buffer bytes.old span) byte }
 {

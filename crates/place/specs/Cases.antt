@@ -1,6 +1,6 @@
 -- The marked cases of a frame: lengths, and whole frames run slot by slot. Then frames whose every drive and event is
 -- compared.
-use Rattle.std.specs.Prelude.{Bool, true, false, ◌≡◌, refl, List, [], ◌∷◌, ◌++◌, ℕ, zero, suc, ◌+◌, ◌-◌, eqb}
+use Rattle.std.specs.Prelude.{Bool, true, false, ◌≡◌, refl, List, [], ◌∷◌, ◌++◌, ℕ, zero, suc, ◌-◌, eqb}
 use Rattle.std.specs.Int.Count.{ones, ones_in}
 use Rattle.line.specs.Cases.{Case, ◌gives◌, all_given}
 use Rattle.line.specs.Choice.{bit_of}

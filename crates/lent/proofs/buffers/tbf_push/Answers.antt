@@ -10,39 +10,22 @@ use Rattle.circles.proofs.Places.{place_within}
 use Rattle.rules.proofs.Calm.{pick_no, pick_yes}
 use Rattle.lent.proofs.buffers.tbf_push.Goals as goal
 
-returns : tie.Need-returns
-unfolding pushed
-returns c = sym (pick_no _ _ _ (le-ltb _ _ c.if1.true))
-
-behind_requires : tie.Need-behind-requires
-behind_requires c κs =
-    let s = c.before.before.args.span in
-    rw c.start.ensures (start_less tbf_bytes s.first (omega arith), c.before.if1.false, omega arith)
-
-element_write_bytes : tie.Need-element-write-bytes
-element_write_bytes c =
-    let a = c.before.before.before.args in
-    rw (c.behind.ensures, c.before.start.ensures)
-    (place_within tbf_bytes (buffer a.bytes.now a.span) a.span.count c.before.before.if1.false)
-
-returns_2 : tie.Need-returns-2
-unfolding pushed
-returns_2 c =
-    rw (c.behind.ensures, c.before.start.ensures)
-    (sym (pick_yes _ _ _ (lt-ltb _ _ c.before.before.if1.false)))
-
 pub returns-then-count-ge-TBF_BYTES : goal.returns-then-count-ge-TBF_BYTES
+unfolding pushed
 returns-then-count-ge-TBF_BYTES c =
-    returns
+    sym (pick_no _ _ _ (le-ltb _ _ c.if-count-ge-TBF_BYTES.true))
 
 pub behind-at-requires : goal.behind-at-requires
 behind-at-requires c =
-    behind_requires
+    rw c.start-first.ensures (start_less tbf_bytes c.args.span.first (omega arith), c.if-count-ge-TBF_BYTES.false, omega arith)
 
 pub bounds-bytes-at : goal.bounds-bytes-at
 bounds-bytes-at c =
-    element_write_bytes
+    rw (c.behind-at.ensures, c.start-first.ensures)
+    (place_within tbf_bytes (buffer c.args.bytes.now c.args.span) c.args.span.count c.if-count-ge-TBF_BYTES.false)
 
 pub returns : goal.returns
+unfolding pushed
 returns c =
-    returns_2
+    rw (c.behind-at.ensures, c.start-first.ensures)
+    (sym (pick_yes _ _ _ (lt-ltb _ _ c.if-count-ge-TBF_BYTES.false)))

@@ -1,4 +1,3 @@
-use borrow.Author.Rules.{rules}
 use Rattle.line.specs.Parity.{parity_of}
 use Rattle.line.proofs.parity.Even.{parity_even}
 use Rattle.line.proofs.parity.parity.Goals as goal

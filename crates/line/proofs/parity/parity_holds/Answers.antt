@@ -1,4 +1,3 @@
-use borrow.Author.Rules.{rules}
 use Rattle.line.specs.Parity.{parity_holds}
 use Rattle.line.proofs.parity.Even.{parity-holds}
 use Rattle.line.proofs.parity.parity_holds.Goals as goal

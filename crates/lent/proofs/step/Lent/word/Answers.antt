@@ -7,17 +7,17 @@ use Rattle.lent.proofs.step.Lent.word.Goals as goal
 
 pub returns-then-word-eq-KIND_SLOT : goal.returns-then-word-eq-KIND_SLOT
 returns-then-word-eq-KIND_SLOT c =
-    let l = loan_in c.?before.args.self c.?before.args.tbf.now c.?before.args.rbf.now in (
+    let l = loan_in c.args.self c.args.tbf.now c.args.rbf.now in (
       refl,
       c.slot.ensures.0,
       λ ft fr. c.slot.ensures.1 fr ∙ ap (after_slot l) c.slot_of.ensures
-          ∙ step_slot l c.?before.args.word (eq-eqb _ _ c.if-word-eq-KIND_SLOT.true),
+          ∙ step_slot l c.args.word (eq-eqb _ _ c.if-word-eq-KIND_SLOT.true),
     )
 
 pub returns : goal.returns
 returns c = (
   c.told.ensures.0,
   refl,
-  λ ft fr. c.told.ensures.1 ft ∙ step_host (loan_in c.?before.args.self c.?before.args.tbf.now c.?before.args.rbf.now) c.?before.args.word
+  λ ft fr. c.told.ensures.1 ft ∙ step_host (loan_in c.args.self c.args.tbf.now c.args.rbf.now) c.args.word
       (ne_eqb _ _ c.if-word-eq-KIND_SLOT.false),
 )
