@@ -1,5 +1,7 @@
 // What a host in C calls of the line as a whole, for which it needs no unit: each function hands on to a library below,
 // whose contract it keeps. No function has a `requires`, and nothing is assumed.
+#![tactic(auto)]
+
 ghost use Rattle.std.specs.Prelude.{◌≡◌};
 ghost use Rattle.contenders.specs.Contest.{ContestedWord, NamedRightly, contenders_of, verdict_in};
 ghost use Rattle.loads.specs.Load.{CalledLoad};
@@ -48,6 +50,7 @@ pub extern "C" fn iebus_contest(records: &[Contender], lost: &mut [u32]) -> u32
 
 // A record for each frame of a log, one behind the other: 0 and the number of frames, or 12 or 16.
 #[unsafe(no_mangle)]
+#[tactic(auto, unfolding(logs::specs::Log::frames_after, logs::specs::Log::number_of))]
 pub extern "C" fn iebus_read_log(
     mode: u32,
     slots: &[u32],
@@ -118,6 +121,7 @@ pub extern "C" fn iebus_slots(
 
 // The figure after every slot of a log, and the largest with the first place where it was reached: 0, or 12, 25 or 16.
 #[unsafe(no_mangle)]
+#[tactic(auto, unfolding(loads::specs::Load::largest_after, loads::specs::Load::number_of, loads::specs::Load::place_after))]
 pub extern "C" fn iebus_load(
     w: u32,
     slots: &[u32],

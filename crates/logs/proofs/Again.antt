@@ -9,7 +9,7 @@ use lib.Seq.{ext_get_or}
 use Rattle.line.proofs.Either.{both}
 use Rattle.line.specs.Cases.{same}
 use Rattle.logs.specs.Data.{Acked, no_byte}
-use Rattle.logs.specs.Relied.{Exactly, SaysAgain, SaysSame, TookSame}
+use Rattle.logs.specs.Relied.{Exactly, SaysAgain, SaysSame}
 use Rattle.logs.specs.Readings.{Reading, bytes_in, equal_frames, equal_said, took_in}
 
 pub same_lists : (xs ys : List ℕ) → same xs ys ≡ true → xs ≡ ys

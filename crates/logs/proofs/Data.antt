@@ -58,9 +58,11 @@ one_more attempts since byte levels t h low w = record {
     took : (i : ℕ) → (get_or (behind byte (since + 1) t).acked i no_byte).attempts ≤ since + suc attempts
     took zero = omega arith
     took (suc j) = omega (arith, w.took j)
+
     took_one : (i : ℕ) → i < length (behind byte (since + 1) t).acked → 1 ≤ (get_or (behind byte (since + 1) t).acked i no_byte).attempts
     took_one zero h = omega arith
     took_one (suc j) h = w.took_one j (omega arith)
+
     byte_low : Low levels → (i : ℕ) → (get_or (behind byte (since + 1) t).acked i no_byte).byte < 256
     byte_low h zero = low h
     byte_low h (suc j) = w.byte (low_drop attempt_slots levels h) j

@@ -7,7 +7,7 @@ use mathlib.Core.Path.{◌≡◌, refl, sym, ap, ap₂, ◌∙◌}
 use Prim.Native.Nat.{ℕ, zero, suc, ◌+◌, ◌*◌, ◌-◌, ◌/◌, ◌^◌, ◌≤◌, ◌<◌}
 use native.Mathlib.Nat.{div-eq_of_lt, div-one}
 use native.Mathlib.Omega.{arith}
-use borrow.Author.Tests.{eq-eqb, le-ltb, lt-ltb, ltb-false, ne_eqb}
+use borrow.Author.Tests.{le-ltb, lt-ltb, ltb-false, ne_eqb}
 use lib.Dec.{eqb, ltb}
 use lib.ListN.{get_or-append, get_or-eq_default, drop, get_or, length, length-append, length-drop, take}
 use lib.Seq.{drop-append-le, take-append-le}
@@ -16,7 +16,6 @@ use Rattle.line.proofs.Levels.{level_split}
 use Rattle.line.specs.Choice.{pick}
 use Rattle.line.specs.Numbers.{end_broken_data}
 use Rattle.line.specs.Parity.{level_of, parity_holds}
-use Rattle.logs.specs.Data.{byte_in, counts}
 use Rattle.logs.specs.Fields.{Field, end_in, given_in, header, length_in, nak_at, number_at, number_from, value_in}
 use Rattle.logs.specs.Readings.{data_of, read_of}
 use Rattle.logs.specs.Relied.{AttemptSays, Gives, HeaderSays, bits_of, fields_of, header_end, header_of, nak_in}

@@ -1,6 +1,8 @@
 // A roll that a host in C keeps as bytes: who joins and leaves it, and who would go next. Any bytes of a roll's size
 // are some roll; a call that changes it writes all of them, so that they are then the bytes of that roll and no others.
 // No public function has a `requires`, and nothing is assumed.
+#![tactic(auto)]
+
 ghost use Rattle.std.specs.Prelude.{◌≡◌, ◌<◌, ◌≤◌, length};
 ghost use Rattle.line.specs.Numbers.{most_contenders, roll_bytes};
 ghost use Rattle.contenders.specs.Contest.{in_range};
@@ -16,6 +18,7 @@ use line::numbers::{
 // Above the number of who is shown: somebody is.
 const SOMEBODY: u32 = 0x8000;
 
+#[tactic(auto, unfolding(contenders::specs::Contest::in_range))]
 fn in_range(bit: u32, address: u32) -> bool
     ensures { result ≡ in_range (asked bit address) }
 {
@@ -140,6 +143,7 @@ pub extern "C" fn iebus_roll_begin(roll: &mut [u8]) -> u32
 
 // A request joins the roll, as its last: 0, or 14, 100, 22 or 21.
 #[unsafe(no_mangle)]
+#[tactic(auto, unfolding(contenders::specs::Contest::number_of))]
 pub extern "C" fn iebus_roll_join(roll: &mut [u8], bit: u32, address: u32) -> u32
     ensures whole { Joins (asked bit address) roll.old result roll.new }
     ensures relied { Relied }
@@ -167,6 +171,7 @@ pub extern "C" fn iebus_roll_join(roll: &mut [u8], bit: u32, address: u32) -> u3
 
 // A request leaves the roll, and the others stay in their order: 0, or 14, 100 or 23.
 #[unsafe(no_mangle)]
+#[tactic(auto, unfolding(contenders::specs::Contest::number_of))]
 pub extern "C" fn iebus_roll_leave(roll: &mut [u8], bit: u32, address: u32) -> u32
     ensures whole { Leaves (asked bit address) roll.old result roll.new }
     ensures relied { Relied }

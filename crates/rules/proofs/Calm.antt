@@ -7,7 +7,6 @@ use Prim.Native.Nat.{ℕ, ◌-◌, ◌^◌, ◌≤◌, ◌<◌}
 use borrow.Author.Tests.{eqb-true}
 use lib.Dec.{T, eqb}
 use Rattle.line.specs.Choice.{pick}
-use Rattle.line.proofs.Either.{either}
 use Rattle.place.specs.Set.{frame·control}
 use Rattle.place.specs.Slaves.{writes_of, open_to}
 use Rattle.place.specs.declared.Field.{Field}

@@ -20,7 +20,6 @@ use Rattle.place.specs.declared.Place.TheVariants.{Waiting, In}
 use Rattle.rules.specs.declared.state.Acted.{Acted}
 use Rattle.rules.specs.declared.state.Act.{Act}
 use Rattle.rules.specs.declared.state.Core.{Core}
-use Rattle.rules.specs.declared.state.Registers.{Registers}
 use Rattle.rules.specs.declared.state.Act.TheVariants.{Nothing, Take, Header, Byte}
 use Rattle.rules.specs.declared.state.Seen.{Seen}
 use Rattle.rules.specs.Set.{registers·losses, registers·marc, registers·slrc, registers·rdr1, registers·rdr2}

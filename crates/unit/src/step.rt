@@ -30,6 +30,7 @@ pub struct Stepped {
 }
 
 impl Unit {
+    #[tactic(auto, unfolding(circles::specs::Circle::circle_of, circles::specs::Circle::items))]
     pub fn reset() -> Unit
         ensures result_value { state_of result ≡ reset }
         ensures whole { result ≡ reset_unit }
@@ -51,6 +52,7 @@ impl Unit {
     }
 
     // The unit after a word, and what it is answered.
+    #[tactic(auto, unfolding(crate::specs::Unit::unit_by))]
     pub fn step(self, word: u32) -> Stepped
         ensures unit_value { state_of result.unit ≡ step_of (state_of self) word }
         ensures answer_value { result.answer ≡ answer_of (state_of self) word }

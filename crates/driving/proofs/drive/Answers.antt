@@ -1,5 +1,4 @@
 use Rattle.place.specs.Drive.{drive_of}
-use borrow.Author.Rules.{rules}
 use Rattle.driving.proofs.drive.Goals as goal
 
 pub returns-in-Waiting : goal.returns-in-Waiting

@@ -1,5 +1,4 @@
 use Rattle.place.specs.Drive.{drive_in}
-use borrow.Author.Rules.{rules}
 use Rattle.driving.proofs.drive_in.Goals as goal
 
 pub returns-then-frame : goal.returns-then-frame

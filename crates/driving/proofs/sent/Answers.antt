@@ -1,7 +1,6 @@
 use Rattle.place.specs.Drive.{sent_of}
 use borrow.Author.Tests.{eq-eqb, le-ltb, lt-ltb, ne_eqb}
 use Rattle.line.specs.Parity.{level_of}
-use borrow.Author.Rules.{rules}
 use Rattle.driving.proofs.sent.Goals as goal
 
 pub returns-then-n-width : goal.returns-then-n-width

@@ -1,7 +1,5 @@
 use borrow.Author.Rules.{rules}
-use Prim.Native.Nat.{◌-◌}
-use lib.ListN.{length}
-use Rattle.pieces.proofs.Digits.{Read, all_read, no_digit, nothing_read, one_read}
+use Rattle.pieces.proofs.Digits.{all_read, no_digit, nothing_read, one_read}
 use Rattle.pieces.proofs.number.Goals as goal
 
 pub returns-then-text-eq0 : goal.returns-then-text-eq0

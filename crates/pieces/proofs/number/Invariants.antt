@@ -1,7 +1,6 @@
-use borrow.Author.Rules.{rules}
 use Prim.Native.Nat.{◌-◌}
 use lib.ListN.{length}
-use Rattle.pieces.proofs.Digits.{Read, all_read, no_digit, nothing_read, one_read}
+use Rattle.pieces.proofs.Digits.{Read}
 use Rattle.pieces.proofs.number.Given as goal
 
 abbrev pub invariant-loop-i : goal.invariant-loop-i

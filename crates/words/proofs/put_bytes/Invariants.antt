@@ -1,9 +1,6 @@
-use borrow.Author.Rules.{rules}
-use native.Mathlib.Omega.{arith}
-use mathlib.Core.Path.{◌≡◌}
 use Prim.Native.Nat.{◌-◌, ◌*◌, ◌≤◌}
 use Rattle.words.specs.Words.{byte_at}
-use Rattle.line.proofs.Placed.{Placed, all_placed, none_placed, one_placed}
+use Rattle.line.proofs.Placed.{Placed}
 use Rattle.words.proofs.put_bytes.Given as goal
 
 abbrev pub invariant-loop-i : goal.invariant-loop-i

@@ -1,9 +1,7 @@
 use borrow.Author.Rules.{rules}
 use native.Mathlib.Omega.{arith}
 use mathlib.Core.Path.{◌≡◌}
-use Prim.Native.Nat.{◌-◌, ◌≤◌}
-use Rattle.words.specs.Words.{word_at}
-use Rattle.line.proofs.Placed.{Placed, all_placed, none_placed, one_placed}
+use Rattle.line.proofs.Placed.{all_placed, none_placed, one_placed}
 use Rattle.words.proofs.put_words.Goals as goal
 
 pub loop-i-init : goal.loop-i-init

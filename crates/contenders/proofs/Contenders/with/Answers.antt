@@ -1,6 +1,5 @@
 use native.Mathlib.Omega.{arith}
 use borrow.Author.Tests.{lt-ltb, le-ltb}
-use borrow.Author.Rules.{rules}
 use Rattle.line.specs.Numbers.{most_contenders}
 use Rattle.contenders.proofs.Contenders.with.Goals as goal
 

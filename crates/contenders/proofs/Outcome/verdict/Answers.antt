@@ -1,4 +1,3 @@
-use borrow.Author.Rules.{rules}
 use Rattle.contenders.proofs.Outcome.verdict.Goals as goal
 
 pub returns-in-Winner : goal.returns-in-Winner

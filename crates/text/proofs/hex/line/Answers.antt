@@ -1,5 +1,4 @@
 use Rattle.text.proofs.Digits.{line_list}
-use borrow.Author.Rules.{rules}
 use Rattle.text.proofs.hex.line.Goals as goal
 
 pub returns : goal.returns

@@ -1,7 +1,6 @@
 -- `text::listing::listing` meets its contract: where there is room, the lines and then the last line stand in the text.
 use mathlib.Core.Path.{◌∙◌, sym}
 use native.Mathlib.Nat.{add-zero}
-use borrow.Author.Rules.{rules}
 use borrow.Author.Tests.{lt-ltb}
 use Rattle.text.specs.declared.last.Last.TheVariants.{Nothing, Short, More}
 use Rattle.text.specs.Last.{last_text}

@@ -1,10 +1,8 @@
 -- `text::listing::put_lines` meets its contract. The loop's invariant: so many lines stand behind the header.
-use Prim.Native.Nat.{◌≤◌, ◌-◌}
 use native.Mathlib.Omega.{arith}
 use mathlib.Core.Path.{◌≡◌, ◌∙◌, ap, sym, refl}
 use borrow.Author.Rules.{rules}
 use lib.ListN.{length}
-use Rattle.text.specs.Writing.{LinesUpTo}
 use Rattle.text.proofs.Digits.{line_length}
 use Rattle.text.proofs.Lines.{begun, since, one_more}
 use Rattle.text.proofs.listing.put_lines.Goals as goal

@@ -1,11 +1,7 @@
 use Prim.Native.Nat.{◌≤◌, ◌-◌}
-use native.Mathlib.Omega.{arith}
-use mathlib.Core.Path.{◌≡◌, ◌∙◌, ap, sym, refl}
-use borrow.Author.Rules.{rules}
+use mathlib.Core.Path.{◌≡◌}
 use lib.ListN.{length}
 use Rattle.text.specs.Writing.{LinesUpTo}
-use Rattle.text.proofs.Digits.{line_length}
-use Rattle.text.proofs.Lines.{begun, since, one_more}
 use Rattle.text.proofs.listing.put_lines.Given as goal
 
 abbrev pub invariant-loop-i : goal.invariant-loop-i

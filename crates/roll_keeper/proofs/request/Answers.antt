@@ -1,0 +1,20 @@
+use borrow.Author.Rules.{rules}
+use native.Mathlib.Omega.{arith}
+use Prim.Native.Nat.{◌+◌, ◌*◌}
+use Rattle.roll_keeper.proofs.request.Goals as goal
+
+pub overflow_cast-low : goal.overflow_cast-low
+overflow_cast-low c =
+    omega (arith, c.shared_slice_known-1.given (2 * c.args.place + 1))
+
+pub overflow_cast-high : goal.overflow_cast-high
+overflow_cast-high c =
+    omega (arith, c.shared_slice_known-2-1.given (2 * c.args.place + 2))
+
+pub overflow_mul-result : goal.overflow_mul-result
+overflow_mul-result c =
+    omega (arith, c.shared_slice_known-2-1.given (2 * c.args.place + 2))
+
+pub overflow_add-result : goal.overflow_add-result
+overflow_add-result c =
+    omega (arith, c.shared_slice_known-2-1.given (2 * c.args.place + 1), c.shared_slice_known-2-1.given (2 * c.args.place + 2))
