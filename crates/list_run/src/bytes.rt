@@ -83,6 +83,7 @@ fn run_spelled(
 // last answer keep their contents. The number is 0, or 11 where the bytes are no whole words, or 12 where `answers` is
 // shorter than `words`; then nothing is run and nothing written. Each word is ruled as the tables of refusals say, and
 // the holder of the lock is protected from everybody else's frames.
+#[tactic(auto, unfolding(crate::specs::Run::unit_left, lists::specs::Bytes::state_after, lists::specs::Bytes::bytes_after))]
 pub fn run_bytes(from: Unit, words: &[u8], answers: &mut [u8]) -> RanBytes
     ensures called { CalledBytes (state_of from) words.now answers.old result.number
         answers.new }

@@ -77,6 +77,7 @@ pub(crate) fn unit_of(lent: Lent, sent: [u8; TBF_BYTES], stored: [u8; RBF_BYTES]
 // their contents. Where the answer list is shorter than the word list, nothing is run and nothing written. Each word is
 // ruled as the tables of refusals say, a refused one with the unit unchanged. The holder of the lock is protected from
 // everybody else's frames, in the unit that is left and in the answers.
+#[tactic(auto, unfolding(crate::specs::Run::number_of, crate::specs::Run::unit_left, lists::specs::Run::list_refusal, lists::specs::Run::unit_after, lists::specs::Run::answers_after))]
 pub fn run(from: Unit, words: &[u32], answers: &mut [u32]) -> Finished
     ensures called { Called (state_of from) words.now answers.old (number_of result.outcome)
         (state_of result.unit) answers.new }

@@ -1,0 +1,15 @@
+use native.Mathlib.Omega.{arith}
+use borrow.Author.Rules.{rules}
+use mathlib.Core.Path.{sym, ap, ◌∙◌}
+use Prim.Native.Nat.{◌-◌}
+use lib.ListN.{length}
+use Rattle.unit.specs.Unit.{unit_in}
+use Rattle.rules.specs.Step.{word_of}
+use Rattle.list_run.proofs.Spelled.{SpelledIn, none_spelled_in, one_spelled_in, all_spelled, all_spelled_over}
+use Rattle.list_run.proofs.bytes.run_spelled.Given as goal
+
+abbrev pub invariant-loop-at : goal.invariant-loop-at
+invariant-loop-at l = SpelledIn (unit_in l.initial.lent l.initial.tbf l.initial.rbf) l.words l.initial.answers l.lent l.tbf l.rbf l.answers l.at
+
+abbrev pub decreases-loop-at : goal.decreases-loop-at
+decreases-loop-at l = length l.words - l.at

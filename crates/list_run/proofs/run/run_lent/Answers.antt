@@ -1,0 +1,27 @@
+use borrow.Author.Rules.{rules}
+use mathlib.Core.Path.{sym, ap, ◌∙◌}
+use Prim.Native.Nat.{◌-◌}
+use lib.ListN.{length}
+use Rattle.unit.specs.Unit.{unit_in}
+use Rattle.rules.specs.Step.{word_of}
+use Rattle.list_run.proofs.Underway.{UnderwayIn, none_run_in, one_run_in, all_over, all_run}
+use Rattle.list_run.proofs.run.run_lent.Goals as goal
+
+pub loop-i-init : goal.loop-i-init
+loop-i-init c =
+    none_run_in _ _ _ _ _ c.requires.whole
+
+pub loop-i-preserved-in_default : goal.loop-i-preserved-in_default
+loop-i-preserved-in_default c =
+    one_run_in c.loop-i.invariant c.loop-i-test.true c.requires.room
+    c.step-after.ensures _ c.answer_word.ensures
+
+pub loop-i-preserved : goal.loop-i-preserved
+loop-i-preserved c =
+    one_run_in c.loop-i.invariant c.loop-i-test.true c.requires.room
+    c.step-after.ensures _ (c.answer_word-in-loop-i.ensures ∙ sym (ap word_of c.in-Given.is))
+
+pub returns : goal.returns
+returns c =
+    let done = all_run c.loop-i.invariant.ran c.loop-i-test.false in
+    record { state = done.0; written = done.1; whole = all_over c.loop-i.invariant c.loop-i-test.false }
