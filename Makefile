@@ -11,13 +11,14 @@ OUT = target
 LIBRARY = $(OUT)/libiebus.a
 EXAMPLE = $(OUT)/host/bench
 
-# it has the functions for C of `unit_exports`, `line_exports` and `roll_keeper`; everything else in it is local
+# it is that of the crate `iebus_c`, which has the functions for C of `unit_exports`, `line_exports` and `roll_keeper`;
+# everything else in it is local
 ARCHIVE = $(OUT)/staticlib/libiebus.a
 HOST = $(patsubst host/%.c,$(OUT)/host/%.o,$(wildcard host/*.c))
 
 all: $(LIBRARY)
 
-# two runs of `rt` would meet in target/
+# two runs of `rt` would wait for each other
 .NOTPARALLEL:
 
 # asked every time, because tests/archive knows best whether there is something to do

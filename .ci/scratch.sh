@@ -1,10 +1,10 @@
-# Where the checks work. Each copies every module of the libraries below it into TMPDIR, up to 230 MB in thousands of
-# files, and removes them; on a disk that takes seconds, in memory next to nothing. Needs rt.sh.
+# Where the checks work. rt copies a crate for each edit into TMPDIR, with what was proved of it, in thousands of files,
+# and removes them; on a disk that takes seconds, in memory next to nothing. Needs rt.sh.
 memory=/dev/shm
 # our folder there, once it is made: what is removed at the end is nothing that the environment names
 scratch=''
-# what a check may need there, in KiB, with as much again for what grows
-memory_each=$((512 * 1024))
+# what a check may need there, in KiB, with as much again for what grows; `rt ci` wants 3 GB in all
+memory_each=$((1024 * 1024))
 
 # roomy FOLDER: it has room for the checks that run at a time, and so has the memory that it takes its room from
 roomy() {

@@ -3,7 +3,8 @@
 #   awk -v crate=NAME -f tests/applies.awk crates/NAME/must-fail/*.edit
 #
 # prints 'bad', the crate, the edit and why, with tabs between them. As for `rt`, a line `file: ` holds for the pairs
-# of `old: ` and `new:` after it, and each old text has to be in its file once, with the pairs before it made.
+# of `old: ` and `new:` after it, and each old text has to be in its file once, with the pairs before it made. With
+# `-v to=FOLDER` an edit that can be made is made there, in a copy of the crate.
 BEGIN { OFS = "\t" }
 FNR == 1 { finish(); start() }
 sub(/^file: /, "") { file = $0; next }
@@ -24,6 +25,14 @@ function finish() {
     if (label == "") return
     if (!pairs) why = "it has no pair of `old:` and `new:`"
     if (why != "") print "bad", crate, label, why
+    else if (to != "") make()
+}
+
+function make(    name) {
+    for (name in texts) {
+        printf "%s", texts[name] > (to "/" name)
+        close(to "/" name)
+    }
 }
 
 # reads a file once for each edit; false where it cannot be read

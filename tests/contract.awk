@@ -6,25 +6,27 @@
 # With `-v program=1` that of each function with an `ensures`, public or not: a program has none that is public.
 
 # `ghost use PATH.{NAMES};`: where each name is from, in this file
-function taken(line,    path, list, n, i) {
+function taken(line,    path, list, n, i, part) {
     sub(/^ghost use /, "", line)
     path = line
     sub(/\.\{.*/, "", path)
     sub(/.*\.\{/, "", line)
     sub(/\};.*/, "", line)
     n = split(line, list, /, */)
-    for (i = 1; i <= n; i++) from[FILENAME, list[i]] = path "." list[i]
+    for (i = 1; i <= n; i++)
+        if (split(list[i], part, / as /) == 2) from[FILENAME, part[2]] = path "." part[1]
+        else from[FILENAME, list[i]] = path "." list[i]
 }
 
-# where the names of a text are from; an operator's has a `_` at each place of an argument
+# where the names of a text are from; an operator's has a `◌` at each place of an argument
 function sources(words,    list, n, i, forms, f, told, all) {
-    gsub(/[(){},.]|⌜|⌝/, " ", words)
+    gsub(/[(){},.]/, " ", words)
     n = split(words, list, / +/)
     for (i = 1; i <= n; i++) {
         if (list[i] in told) continue
         told[list[i]] = 1
         forms[1] = list[i]
-        forms[2] = "_" list[i] "_"
+        forms[2] = "◌" list[i] "◌"
         for (f = 1; f <= 2; f++)
             if ((FILENAME, forms[f]) in from) all = all " | " forms[f] " of " from[FILENAME, forms[f]]
     }

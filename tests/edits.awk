@@ -1,11 +1,15 @@
-# Judges the first lines of the edits, and the logs of their checks, for tests/edits. Each line that it reads has a
-# kind, and then for `phrase` a kind of edit and a phrase, else a crate and what it has: a public function, a
-# declaration, an edit with its first line, a file that an edit changes, why an edit cannot be made.
+# Judges the first lines of the edits, what rt said when it tried them, and the logs of their checks, for tests/edits.
+# Each line that it reads has a kind, and then for `phrase` a kind of edit and a phrase, else a crate and what it has: a
+# public function, a declaration, one that is part of a function's proof, an edit with its first line, a file that an
+# edit changes, why an edit cannot be made, what rt said of it, that its log is to be read.
 
 $1 == "phrase" { phrases[++phrase_count] = $3; phrase_kind[phrase_count] = $2 }
 $1 == "function" { functions[++function_count] = $3; function_crate[function_count] = $2 }
 $1 == "private" { private[$2, $3] = 1 }
 $1 == "declaration" { declared[$2, $3] = 1 }
+$1 == "answer" { answer[$2, $3] = 1 }
+$1 == "said" { said[$2 "/" $3] = $4 }
+$1 == "open" { open[$2 "/" $3] = 1 }
 $1 == "file" { files[$2 "/" $3] = files[$2 "/" $3] " " $4 }
 $1 == "bad" { bad[$2 "/" $3] = $4 }
 $1 == "edit" { read_edit($2, $3, $4) }
@@ -59,8 +63,9 @@ function quoted(e,    i, count) {
 
 # what is wrong with an edit of a definition or a statement
 function wrong_rule(e) {
+    if (named[e] ~ /-spec$/ || !((crates[e], named[e]) in declared) && (crates[e], named[e]) in answer)
+        return "the proof of a function is neither a theorem nor a computed check"
     if (!((crates[e], named[e]) in declared)) return crates[e] " declares no " named[e]
-    if (named[e] ~ /-spec$/) return "the proof of a function is neither a theorem nor a computed check"
     if (files[edits[e]] ~ / specs\/(Cases|Stories)\.antt/) return "it changes what is computed, and no rule"
     # a claim may also be made in the contract of a function, which stands in src/
     if (kinds[e] != "claim" && files[edits[e]] !~ / specs\//) return "it changes no definition"
@@ -89,14 +94,92 @@ function judge_lines(    i) {
         else failed("\"" phrases[i] "\"", "no edit is this " phrase_kind[i])
 }
 
+# What rt says of an edit that it has tried: 'refused, as it must be', a note in brackets where that shows little, and
+# the first line that is about a fact, as in a log, cut off behind 160 letters. That is enough where it is of the
+# function or the declaration that the edit names; else its log is asked.
+
+# the function, as its path behind the crate's name, whose proof or whose text an error's first line is in
+function place(e, line,    file, number, path) {
+    if (match(line, /proofs\/[^:]*\/(Answers|Invariants|Proof)\.antt:/)) {
+        path = substr(line, RSTART + 7, RLENGTH - 8)
+        sub(/\/[A-Za-z]*\.antt$/, "", path)
+        gsub(/\//, "::", path)
+        return path
+    }
+    if (!match(line, /src\/[^:]*:[0-9]+:/)) return ""
+    file = number = substr(line, RSTART, RLENGTH - 1)
+    sub(/:.*/, "", file)
+    sub(/.*:/, "", number)
+    return written_at(crates[e], file, number + 0)
+}
+
+# the function that stands at a line of a file, with the attributes before it; an edit has one line for one line
+function written_at(crate, file, number,    at, line, name, type, path) {
+    name = type = line = ""
+    while ((at++ < number || line ~ /^ *#\[/) && (getline line < ("crates/" crate "/" file)) > 0) {
+        if (line ~ /^impl[ <]/)
+            type = type_of(line)
+        else if (line ~ /^[}]/)
+            type = ""
+        else if (line ~ /^[^\/]*(^| )fn [A-Za-z_]/) {
+            name = line
+            sub(/^.*(^| )fn /, "", name)
+            sub(/[^A-Za-z0-9_].*/, "", name)
+            if (type != "") name = type "::" name
+        }
+    }
+    close("crates/" crate "/" file)
+    path = file
+    sub(/^src\//, "", path)
+    sub(/\.rt$/, "", path)
+    gsub(/\//, "::", path)
+    return name == "" || path ~ /^(lib|main)$/ ? name : path "::" name
+}
+
+# the type that an `impl` is of
+function type_of(line) {
+    sub(/^impl *(<[^>]*>)? */, "", line)
+    sub(/^.* for /, "", line)
+    sub(/[^A-Za-z0-9_].*/, "", line)
+    return line
+}
+
+function is_named(e, path) {
+    return substr("::" path, length(path) - length(named[e]) + 1) == "::" named[e]
+}
+
+# what is wrong with what rt said, nothing where all is well, or 'open'
+function wrong_said(e,    text) {
+    if (!(edits[e] in said)) return "rt has said nothing of it"
+    text = said[edits[e]]
+    if (text !~ /^refused, as it must be/) return substr(text, 1, 300)
+    if (text ~ /^refused, as it must be \(only by a limit/) return "the prover gave up, and refused nothing: " text
+    if (text ~ /^refused, as it must be \(/)
+        return kinds[e] == "code" ? "a proof that no longer fits: " substr(text, 1, 300) : "open"
+    sub(/^refused, as it must be(: )?/, "", text)
+    if (kinds[e] == "code") return is_named(e, place(e, text)) ? "" : "open"
+    if (in_own_file(e, text) || text ~ /was not admitted/) return "open"
+    return index(text, ": error: `" named[e] "`: ") ? "" : "open"
+}
+
+function judge_said(    e, why) {
+    for (e = 1; e <= edit_count; e++) {
+        why = kinds[e] == "" ? "its first line has none of the forms" : wrong_said(e)
+        if (why == "") ok(edits[e])
+        else if (why == "open") print "open " edits[e]
+        else failed(edits[e], why)
+    }
+}
+
 # Where an edit was refused. Of a declaration NAME in specs/ or proofs/ an error is 'FILE:L:C: error: `NAME`: text'. Of
-# a function that needs no proof file it is 'note: FILE:L:C: it is not proved that ..'. Lines that go on are indented.
+# a function that needs no proof file it is 'note: FILE:L:C: it is not proved that ..'. A function whose contract was
+# not shown, and each that calls it, has a line 'fn PATH: not proved' or 'no proof'. Lines that go on are indented.
 # An error that only says that another declaration 'was not admitted' follows from that one's. That is enough for a
 # theorem, which may rest on what fails; a computed check has to come out wrong itself. A definition that is changed has
 # to be one still: an error in the file that the edit changes shows nothing. Nor does a proof that names a part of the
 # code or of the goal that is no longer there, where it fails first: it does not fit any more, and nothing was asked of
 # the code. An edit of code has to leave the function that it names unproved.
-BEGIN { misfit = "has no (`Need-|field `)|that can be named from here|is a declared record, built with" }
+BEGIN { misfit = "has no field `|that can be named from here|is not in scope|is a declared record, built with" }
 
 # whether an error is in a file of definitions that the edit itself changes
 function in_own_file(e, line,    file) {
@@ -111,7 +194,7 @@ function read_error(e, line,    follows, name, broken) {
     sub(/^[^`]*: error: /, "", line)
     follows = line ~ /was not admitted/
     if (broken && !follows) malformed = line
-    if (index(line, "`" named[e] "`: ") == 1 && !(follows && named[e] ~ /-cases$/)) own = line
+    if (index(line, "`" named[e] "`: ") == 1 && !(follows && named[e] ~ /[-_]cases$/)) own = line
     if (follows) return 0
     name = line ~ /^`/ ? substr(line, 1, index(line, "`: ")) : ""
     if (first == "") { first = line; first_name = name }
@@ -122,20 +205,21 @@ function read_error(e, line,    follows, name, broken) {
 function unproved(e, line,    path) {
     if (line !~ /^fn [^ ]*: (not proved|no proof)/) return 0
     path = substr(line, 4, index(line, ": ") - 4)
-    return index(path, crates[e] "::") == 1 && substr("::" path, length(path) - length(named[e]) + 1) == "::" named[e]
+    return index(path, crates[e] "::") == 1 && is_named(e, path)
 }
 
 # sets `first`, the first error that follows from no other, `own`, one of the declaration that should refuse the edit,
-# `unfit`, a line on what is no longer there, `malformed`, one on a definition that is none any more, and `hit`, whether
-# the function named is not proved
+# `unfit`, a line on what is no longer there, `malformed`, one on a definition that is none any more, `unbuilt`, one
+# that says that the crate could not be checked, and `hit`, whether the function named is not proved
 function read_log(e,    log_file, line, status, inside) {
-    first = own = unfit = malformed = ""
+    first = own = unfit = malformed = unbuilt = ""
     hit = 0
-    log_file = "target/must-fail/" edits[e] "/.log"
+    log_file = "target/must-fail/" edits[e] ".log"
     while ((status = (getline line < log_file)) > 0) {
         if (line !~ /^  /)
             inside = line ~ /^[^`]*:[0-9]+:[0-9]+: (error: |it is not proved that )/ && read_error(e, line)
         if (inside && line ~ misfit) unfit = line
+        if (line ~ /^rt: the library .* did not build/) unbuilt = line
         if (unproved(e, line)) hit = 1
     }
     close(log_file)
@@ -144,6 +228,7 @@ function read_log(e,    log_file, line, status, inside) {
 
 function wrong_log(e) {
     if (read_log(e) < 0) return "it has no log"
+    if (unbuilt != "") return "it was not checked: " unbuilt
     if (first == "") return "its log has no error"
     if (malformed != "") return "what it makes of a definition is none: " substr(malformed, 1, 300)
     if (kinds[e] == "code" && unfit != "") return "a proof that no longer fits: " substr(unfit, 1, 300)
@@ -153,7 +238,8 @@ function wrong_log(e) {
 
 function judge_logs(    e, why) {
     for (e = 1; e <= edit_count; e++) {
-        why = kinds[e] == "" ? "its first line has none of the forms" : wrong_log(e)
+        if (!(edits[e] in open)) continue
+        why = wrong_log(e)
         if (why == "") ok(edits[e])
         else failed(edits[e], why)
     }
@@ -188,6 +274,7 @@ function table(    e) {
 
 END {
     if (task == "lines") judge_lines()
+    else if (task == "said") judge_said()
     else if (task == "logs") judge_logs()
     else table()
 }

@@ -44,7 +44,7 @@ function declares(line) {
     return line
 }
 
-# what a name means; an operator's has a blank, `_`, at each place of an argument
+# what a name means; an operator's has a blank, `◌`, at each place of an argument
 function meaning(word) {
     if (word == name) return ""
     return (word in from ? " | " word " of " from[word] : "") \
@@ -62,7 +62,7 @@ function meanings(words,    list, n, i, word, head, all) {
         head = word
         sub(/\..*/, "", head)
         if (head != word && head in from) all = all " | " word " of " from[head]
-        all = all meaning(word) meaning("_" word "_") meaning("_" word) meaning(word "_")
+        all = all meaning(word) meaning("◌" word "◌") meaning("◌" word) meaning(word "◌")
     }
     return all
 }

@@ -14,7 +14,7 @@ loop-at-init c =
 
 pub overflow_add-at : goal.overflow_add-at
 overflow_add-at c =
-    omega (arith, c.loop-at.invariant.ran.whole, c.loop-at-test.taken)
+    omega (arith, c.loop-at.invariant.ran.whole, c.loop-at-test.true)
 
 pub loop-at-preserved-in_default : goal.loop-at-preserved-in_default
 loop-at-preserved-in_default c =
@@ -24,7 +24,7 @@ loop-at-preserved-in_default c =
 
 pub overflow_add-at-in-loop-at : goal.overflow_add-at-in-loop-at
 overflow_add-at-in-loop-at c =
-    omega (arith, c.loop-at.invariant.ran.whole, c.loop-at-test.taken)
+    omega (arith, c.loop-at.invariant.ran.whole, c.loop-at-test.true)
 
 pub loop-at-preserved : goal.loop-at-preserved
 loop-at-preserved c =
