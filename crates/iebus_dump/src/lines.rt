@@ -57,7 +57,7 @@ fn put_fields(text: &mut [u8], at: usize, place: usize, first: u32, second: u32)
 }
 
 fn put_bytes(text: &mut [u8], at: usize, bytes: &[u32]) -> usize
-    ensures { Put text.old at (bytesColumn bytes.now) result text.new }
+    ensures { Put text.old at (bytes_column bytes.now) result text.new }
 {
     let mut end = at;
     let mut i: usize = 0;
@@ -75,7 +75,7 @@ fn put_bytes(text: &mut [u8], at: usize, bytes: &[u32]) -> usize
 
 // How the frame ended, the mark, and the end of the line.
 fn put_end(text: &mut [u8], at: usize, first: u32) -> usize
-    ensures { Put text.old at (endingColumn (first % 0x10) ++ markColumn (frameBy first 0 []).again) result
+    ensures { Put text.old at (ending_column (first % 0x10) ++ mark_column (frame_by first 0 []).again) result
         text.new }
 {
     let endings: &[u8] =

@@ -15,8 +15,9 @@ mod lines;
 mod whole;
 
 use crate::whole::{last_number, put_dump, shown};
-use libc::{STDIN_FILENO, STDOUT_FILENO};
+use pieces::read_full;
 use reader::read_log;
+use std::env::Env;
 use words::put_words;
 
 // At most so many words are read.
@@ -48,23 +49,23 @@ fn dumped(long: bool, input: &[u8], text: &mut [u8]) -> usize
 }
 
 // There is room for all of it. Where nobody reads what is printed, nothing is left to do.
-fn print(long: bool, input: &[u8], text: &mut [u8])
+fn print(rt: &impl Print, long: bool, input: &[u8], text: &mut [u8])
     requires { dump_bytes ≤ length text.old }
 {
     let count = dumped(long, input, text);
-    io::write_all(STDOUT_FILENO, &text[0..count]);
+    let _ = rt.write_all(&text[0..count]);
 }
 
 // Mode 1 is asked for by the first argument `1`.
-fn long_mode() -> bool {
+fn long_mode(rt: &impl Env) -> bool {
     let mut argument = [0u8; 2];
-    let count = os::arg(1, &mut argument);
+    let count = pieces::argument(rt, 1, &mut argument);
     (count == 1) & (argument[0] == b'1')
 }
 
-fn main() {
+fn main(rt: HostRuntime) {
     let mut input = [0u8; INPUT_BYTES];
     let mut text = [0u8; DUMP_BYTES];
-    let count = io::read_full(STDIN_FILENO, &mut input);
-    print(long_mode(), &input[..count], &mut text);
+    let count = read_full(&mut rt.stdin(), &mut input);
+    print(&rt, long_mode(&rt), &input[..count], &mut text);
 }

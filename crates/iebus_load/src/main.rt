@@ -6,6 +6,8 @@
 // Only the first 65,536 slots are read. What there is to say besides goes to standard error: `refused 25` or `refused
 // 16`, or `empty`, and then nothing is written; `more` where any byte follows the last slot that is read, `short` for 1
 // to 3 bytes left over; or how to call the program. The status is 0 whatever the log is.
+#![tactic(auto)]
+
 ghost use Rattle.std.specs.Prelude.{◌≡◌, ◌≤◌, length};
 ghost use Rattle.iebus_load.specs.Output.{Made, asked_of, most_slots, text_bytes};
 
@@ -15,9 +17,8 @@ mod texts;
 
 use crate::output::{Message, is_svg, told};
 use crate::texts::put_loaded;
-use libc::{STDERR_FILENO, STDIN_FILENO, STDOUT_FILENO};
 use meter::load;
-use pieces::{NO_NUMBER, number};
+use pieces::{NO_NUMBER, argument, argument_count, number, read_full};
 use words::put_words;
 
 // At most so many slots are read.
@@ -97,58 +98,58 @@ fn made(plot: bool, w: u32, input: &[u8], text: &mut [u8]) -> Outcome
     made_in(plot, w, input, &mut slots, &mut figures, text)
 }
 
-fn say(message: Message) {
+fn say(rt: &impl Eprint, message: Message) {
     match message {
         Message::Nothing => {}
         Message::Short => {
-            io::write_all(STDERR_FILENO, b"short\n");
+            let _ = rt.eprintln("short");
         }
         Message::More => {
-            io::write_all(STDERR_FILENO, b"more\n");
+            let _ = rt.eprintln("more");
         }
         Message::Empty => {
-            io::write_all(STDERR_FILENO, b"empty\n");
+            let _ = rt.eprintln("empty");
         }
         Message::BadWindow => {
-            io::write_all(STDERR_FILENO, b"refused 25\n");
+            let _ = rt.eprintln("refused 25");
         }
         Message::NoSlot => {
-            io::write_all(STDERR_FILENO, b"refused 16\n");
+            let _ = rt.eprintln("refused 16");
         }
     }
 }
 
 // There is room for all of it. Where it cannot be written, nothing is left to do.
-fn print(plot: bool, w: u32, input: &[u8], text: &mut [u8])
+fn print(rt: &(impl Print + Eprint), plot: bool, w: u32, input: &[u8], text: &mut [u8])
     requires { text_bytes ≤ length text.old }
 {
     let outcome = made(plot, w, input, text);
     let count = outcome.count;
     let message = outcome.message;
-    io::write_all(STDOUT_FILENO, &text[0..count]);
-    say(message);
+    let _ = rt.write_all(&text[0..count]);
+    say(rt, message);
 }
 
-fn show(plot: bool, w: u32) {
+fn show(rt: HostRuntime, plot: bool, w: u32) {
     let mut input = [0u8; INPUT_BYTES];
     let mut text = [0u8; TEXT_BYTES];
-    let count = io::read_full(STDIN_FILENO, &mut input);
-    print(plot, w, &input[..count], &mut text);
+    let count = read_full(&mut rt.stdin(), &mut input);
+    print(&rt, plot, w, &input[..count], &mut text);
 }
 
-fn explain() {
-    io::write_all(STDERR_FILENO, b"usage: iebus_load WINDOW [svg] <SLOTS\n");
+fn explain(rt: &impl Eprint) {
+    let _ = rt.eprintln("usage: iebus_load WINDOW [svg] <SLOTS");
 }
 
-fn main() {
+fn main(rt: HostRuntime) {
     let mut window = [0u8; NUMBER_BYTES];
     let mut second = [0u8; 3];
-    let digits = os::arg(1, &mut window);
-    let letters = os::arg(2, &mut second);
-    let wanted = asked(os::arg_count(), &window[..digits], &second[..letters]);
+    let digits = argument(&rt, 1, &mut window);
+    let letters = argument(&rt, 2, &mut second);
+    let wanted = asked(argument_count(&rt), &window[..digits], &second[..letters]);
     match wanted {
-        Wanted::Summary(w) => show(false, w),
-        Wanted::Plot(w) => show(true, w),
-        Wanted::Neither => explain(),
+        Wanted::Summary(w) => show(rt, false, w),
+        Wanted::Plot(w) => show(rt, true, w),
+        Wanted::Neither => explain(&rt),
     }
 }

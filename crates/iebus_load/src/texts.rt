@@ -60,7 +60,7 @@ fn put_summary(text: &mut [u8], f: Facts) -> usize
 
 fn head_numbers(f: Facts) -> [u32; 14]
     requires { Sized f }
-    ensures { result ≡ headNumbers f }
+    ensures { result ≡ head_numbers f }
 {
     let quarter = (f.slots + 3) / 4;
     [
@@ -83,7 +83,7 @@ fn head_numbers(f: Facts) -> [u32; 14]
 
 fn put_head(text: &mut [u8], f: Facts) -> usize
     requires { Sized f }
-    ensures { Put text.old 0 (woven headForm (headNumbers f)) result text.new }
+    ensures { Put text.old 0 (woven head_form (head_numbers f)) result text.new }
 {
     let form: &[u8] =
         b"<svg xmlns=\"http://www.w3.org/2000/svg\" viewBox=\"0 0 960 400\" font-family=\"sans-serif\" \

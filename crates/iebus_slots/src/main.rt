@@ -6,6 +6,8 @@
 // Only the first 16,384 pulses are read. What there is to say goes to standard error: `refused 19` or `refused 20`, and
 // then nothing is written; `more` where any byte follows the last pulse that is read, `short` for 1 to 3 bytes left
 // over; or how to call the program. The status is 0 whatever the pulses are.
+#![tactic(auto)]
+
 ghost use Rattle.std.specs.Prelude.{◌≡◌, ◌++◌, ◌*◌, ◌≤◌, drop, length};
 ghost use Rattle.iebus_slots.specs.Arguments.{asked_of};
 ghost use Rattle.iebus_slots.specs.Output.{ReadAgain, measured_of, message_of, most_pulses, output_of};
@@ -16,8 +18,7 @@ mod output;
 use crate::arguments::{Asked, range, setting};
 use crate::output::{Message, given, told};
 use capture::slots_of_pulses;
-use libc::{STDERR_FILENO, STDIN_FILENO, STDOUT_FILENO};
-use pieces::number;
+use pieces::{argument, number, read_full};
 use pulses::Setting;
 use words::{WORD_BYTES, put_bytes, put_words};
 
@@ -81,62 +82,61 @@ fn converted(setting: Setting, input: &[u8], bytes: &mut [u8]) -> Outcome
     }
 }
 
-fn say(message: Message) {
+fn say(rt: &impl Eprint, message: Message) {
     match message {
         Message::Nothing => {}
         Message::Short => {
-            io::write_all(STDERR_FILENO, b"short\n");
+            let _ = rt.eprintln("short");
         }
         Message::More => {
-            io::write_all(STDERR_FILENO, b"more\n");
+            let _ = rt.eprintln("more");
         }
         Message::BadRanges => {
-            io::write_all(STDERR_FILENO, b"refused 19\n");
+            let _ = rt.eprintln("refused 19");
         }
         Message::BadPulse => {
-            io::write_all(STDERR_FILENO, b"refused 20\n");
+            let _ = rt.eprintln("refused 20");
         }
     }
 }
 
 // There is room for all of it. Where it cannot be written, nothing is left to do.
-fn print(setting: Setting, input: &[u8], slots: &mut [u8])
+fn print(rt: &(impl Print + Eprint), setting: Setting, input: &[u8], slots: &mut [u8])
     requires { most_pulses * 4 ≤ length slots.old }
 {
     let outcome = converted(setting, input, slots);
     let count = outcome.count;
     let message = outcome.message;
-    io::write_all(STDOUT_FILENO, &slots[0..count]);
-    say(message);
+    let _ = rt.write_all(&slots[0..count]);
+    say(rt, message);
 }
 
-fn convert(setting: Setting) {
+fn convert(rt: HostRuntime, setting: Setting) {
     let mut input = [0u8; INPUT_BYTES];
     let mut slots = [0u8; SLOT_BYTES];
-    let count = io::read_full(STDIN_FILENO, &mut input);
-    print(setting, &input[..count], &mut slots);
+    let count = read_full(&mut rt.stdin(), &mut input);
+    print(&rt, setting, &input[..count], &mut slots);
 }
 
-fn explain() {
-    io::write_all(
-        STDERR_FILENO,
-        b"usage: iebus_slots ZERO-LEAST ZERO-MOST ONE-LEAST ONE-MOST START-LEAST START-MOST <PULSES >SLOTS\n",
+fn explain(rt: &impl Eprint) {
+    let _ = rt.eprintln(
+        "usage: iebus_slots ZERO-LEAST ZERO-MOST ONE-LEAST ONE-MOST START-LEAST START-MOST <PULSES >SLOTS",
     );
 }
 
-fn main() {
+fn main(rt: HostRuntime) {
     let mut zero_least = [0u8; ARGUMENT_BYTES];
     let mut zero_most = [0u8; ARGUMENT_BYTES];
     let mut one_least = [0u8; ARGUMENT_BYTES];
     let mut one_most = [0u8; ARGUMENT_BYTES];
     let mut start_least = [0u8; ARGUMENT_BYTES];
     let mut start_most = [0u8; ARGUMENT_BYTES];
-    let a = os::arg(1, &mut zero_least);
-    let b = os::arg(2, &mut zero_most);
-    let c = os::arg(3, &mut one_least);
-    let d = os::arg(4, &mut one_most);
-    let e = os::arg(5, &mut start_least);
-    let f = os::arg(6, &mut start_most);
+    let a = argument(&rt, 1, &mut zero_least);
+    let b = argument(&rt, 2, &mut zero_most);
+    let c = argument(&rt, 3, &mut one_least);
+    let d = argument(&rt, 4, &mut one_most);
+    let e = argument(&rt, 5, &mut start_least);
+    let f = argument(&rt, 6, &mut start_most);
     let setting = setting_asked(
         &zero_least[..a],
         &zero_most[..b],
@@ -146,7 +146,7 @@ fn main() {
         &start_most[..f],
     );
     match setting {
-        Asked::Given(setting) => convert(setting),
-        Asked::Missing => explain(),
+        Asked::Given(setting) => convert(rt, setting),
+        Asked::Missing => explain(&rt),
     }
 }

@@ -1,43 +1,48 @@
 // Runs the contest on the cases that document 01 names and on one of each refusal, and prints for each its number, the
 // place named and the first numbers of the list, which held 99 everywhere. Contenders go by value, and then as a lent
 // list of records.
-use contenders::{Contender, Contenders, Outcome};
-use libc::STDOUT_FILENO;
+#![tactic(auto)]
 
-fn number(x: u64) {
-    io::write_all(STDOUT_FILENO, b" ");
-    io::print_decimal(STDOUT_FILENO, x);
+use contenders::{Contender, Contenders, Outcome};
+
+// Where nobody reads what is printed, nothing is left to do.
+fn say(rt: &impl Print, text: &str) {
+    let _ = rt.print(text);
+}
+
+fn number(rt: &impl Print, x: u64) {
+    let _ = print!(rt; " {x}");
 }
 
 fn wide(x: u32) -> u64 {
     x as u64
 }
 
-fn show(outcome: Outcome, lost: &[u32; 52]) {
+fn show(rt: &impl Print, outcome: Outcome, lost: &[u32; 52]) {
     let verdict = outcome.verdict();
-    number(verdict.number as u64);
-    number(verdict.place as u64);
-    io::write_all(STDOUT_FILENO, b" list");
-    number(wide(lost[0]));
-    number(wide(lost[1]));
-    number(wide(lost[2]));
-    number(wide(lost[49]));
-    number(wide(lost[50]));
-    io::write_all(STDOUT_FILENO, b"\n");
+    number(rt, verdict.number as u64);
+    number(rt, verdict.place as u64);
+    say(rt, " list");
+    number(rt, wide(lost[0]));
+    number(rt, wide(lost[1]));
+    number(rt, wide(lost[2]));
+    number(rt, wide(lost[49]));
+    number(rt, wide(lost[50]));
+    say(rt, "\n");
 }
 
 // The contest over a list of 52 numbers.
-fn run(contenders: Contenders) {
+fn run(rt: &impl Print, contenders: Contenders) {
     let mut lost = [99u32; 52];
     let outcome = contest::contest(contenders, &mut lost);
-    show(outcome, &lost);
+    show(rt, outcome, &lost);
 }
 
 // The contest over a list of one number only.
-fn run_short(contenders: Contenders) {
+fn run_short(rt: &impl Print, contenders: Contenders) {
     let mut lost = [99u32; 52];
     let outcome = contest::contest(contenders, &mut lost[..1]);
-    show(outcome, &lost);
+    show(rt, outcome, &lost);
 }
 
 // The contest over a list of records that is lent to it.
@@ -45,10 +50,10 @@ fn lent(records: [Contender; 3], lost: &mut [u32]) -> Outcome {
     records::contest(&records, lost)
 }
 
-fn run_lent(records: [Contender; 3]) {
+fn run_lent(rt: &impl Print, records: [Contender; 3]) {
     let mut lost = [99u32; 52];
     let outcome = lent(records, &mut lost);
-    show(outcome, &lost);
+    show(rt, outcome, &lost);
 }
 
 // Contenders with the ordinary addresses from 7FFH downwards.
@@ -68,21 +73,25 @@ fn ordinary(address: u16) -> Contender {
     Contender { bit: 1, address }
 }
 
-fn lent_cases() {
-    io::write_all(STDOUT_FILENO, b"lent, 0FEH beats 0FFH and 100H:");
-    run_lent([ordinary(0x100), ordinary(0x0FF), ordinary(0x0FE)]);
-    io::write_all(STDOUT_FILENO, b"lent, address 1000H at place 1:");
-    run_lent([ordinary(5), ordinary(0x1000), ordinary(0x1001)]);
-    io::write_all(STDOUT_FILENO, b"lent, places 0 and 2 alike:");
-    run_lent([ordinary(5), ordinary(6), ordinary(5)]);
+fn lent_cases(rt: &impl Print) {
+    say(rt, "lent, 0FEH beats 0FFH and 100H:");
+    run_lent(rt, [ordinary(0x100), ordinary(0x0FF), ordinary(0x0FE)]);
+    say(rt, "lent, address 1000H at place 1:");
+    run_lent(rt, [ordinary(5), ordinary(0x1000), ordinary(0x1001)]);
+    say(rt, "lent, places 0 and 2 alike:");
+    run_lent(rt, [ordinary(5), ordinary(6), ordinary(5)]);
 }
 
 // Number 15 names the lowest place whose contender occurs again later.
-fn alike_cases() {
-    io::write_all(STDOUT_FILENO, b"places 1 and 2 alike:");
-    run(Contenders::new(3).with(0, 0, 5).with(1, 1, 5).with(2, 1, 5));
-    io::write_all(STDOUT_FILENO, b"places 0 and 3, 1 and 2 alike:");
+fn alike_cases(rt: &impl Print) {
+    say(rt, "places 1 and 2 alike:");
     run(
+        rt,
+        Contenders::new(3).with(0, 0, 5).with(1, 1, 5).with(2, 1, 5),
+    );
+    say(rt, "places 0 and 3, 1 and 2 alike:");
+    run(
+        rt,
         Contenders::new(4)
             .with(0, 1, 5)
             .with(1, 1, 6)
@@ -91,30 +100,35 @@ fn alike_cases() {
     );
 }
 
-fn main() {
-    io::write_all(STDOUT_FILENO, b"0FFH beats 100H:");
-    run(Contenders::new(2).with(0, 1, 0x100).with(1, 1, 0x0FF));
-    io::write_all(STDOUT_FILENO, b"broadcast FFFH beats ordinary 000H:");
-    run(Contenders::new(2).with(0, 1, 0x000).with(1, 0, 0xFFF));
-    io::write_all(STDOUT_FILENO, b"one alone:");
-    run(Contenders::new(1).with(0, 1, 0x525));
-    io::write_all(STDOUT_FILENO, b"50 taken:");
-    run(many(50));
-    io::write_all(STDOUT_FILENO, b"51 refused:");
-    run(many(51));
-    io::write_all(STDOUT_FILENO, b"no contender:");
-    run(Contenders::new(0));
-    io::write_all(STDOUT_FILENO, b"bit 2 at place 1:");
-    run(Contenders::new(3).with(0, 1, 5).with(1, 2, 6).with(2, 2, 7));
-    io::write_all(STDOUT_FILENO, b"address 1000H at place 2:");
+fn main(rt: HostRuntime) {
+    let rt = &rt;
+    say(rt, "0FFH beats 100H:");
+    run(rt, Contenders::new(2).with(0, 1, 0x100).with(1, 1, 0x0FF));
+    say(rt, "broadcast FFFH beats ordinary 000H:");
+    run(rt, Contenders::new(2).with(0, 1, 0x000).with(1, 0, 0xFFF));
+    say(rt, "one alone:");
+    run(rt, Contenders::new(1).with(0, 1, 0x525));
+    say(rt, "50 taken:");
+    run(rt, many(50));
+    say(rt, "51 refused:");
+    run(rt, many(51));
+    say(rt, "no contender:");
+    run(rt, Contenders::new(0));
+    say(rt, "bit 2 at place 1:");
     run(
+        rt,
+        Contenders::new(3).with(0, 1, 5).with(1, 2, 6).with(2, 2, 7),
+    );
+    say(rt, "address 1000H at place 2:");
+    run(
+        rt,
         Contenders::new(3)
             .with(0, 1, 5)
             .with(1, 0, 0xFFF)
             .with(2, 1, 0x1000),
     );
-    alike_cases();
-    io::write_all(STDOUT_FILENO, b"a list of one number for two:");
-    run_short(Contenders::new(2).with(0, 1, 0x100).with(1, 1, 0x0FF));
-    lent_cases();
+    alike_cases(rt);
+    say(rt, "a list of one number for two:");
+    run_short(rt, Contenders::new(2).with(0, 1, 0x100).with(1, 1, 0x0FF));
+    lent_cases(rt);
 }

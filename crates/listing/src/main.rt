@@ -1,11 +1,13 @@
 // The program `listing`: it "reads standard input, little-endian words, at most 4,096, and prints a header, then word
 // and answer in eight capital hexadecimal digits; a last line `more` if any byte follows the 4,096th word, else
 // `short` for 1 to 3 bytes left over". What it prints is made by `listed`, whose contract says all of it.
+#![tactic(auto)]
+
 ghost use Rattle.std.specs.Prelude.{◌≡◌, ◌++◌, ◌≤◌, length, drop};
 ghost use Rattle.listing.specs.Printed.{printed_of, whole_words};
 
-use libc::{STDIN_FILENO, STDOUT_FILENO};
 use list_run::bytes::run_bytes;
+use pieces::read_full;
 use text::last::MOST_BYTES;
 use text::listing::{LISTING_BYTES, listing};
 use unit::step::Unit;
@@ -38,14 +40,14 @@ fn listed(input: &[u8], text: &mut [u8]) -> usize
 }
 
 // Where nobody reads what is printed, nothing is left to do.
-fn print(input: &[u8], text: &mut [u8]) {
+fn print(rt: &impl Print, input: &[u8], text: &mut [u8]) {
     let count = listed(input, text);
-    io::write_all(STDOUT_FILENO, &text[0..count]);
+    let _ = rt.write_all(&text[0..count]);
 }
 
-fn main() {
+fn main(rt: HostRuntime) {
     let mut input = [0u8; INPUT_BYTES];
     let mut text = [0u8; LISTING_BYTES];
-    let count = io::read_full(STDIN_FILENO, &mut input);
-    print(&input[..count], &mut text);
+    let count = read_full(&mut rt.stdin(), &mut input);
+    print(&rt, &input[..count], &mut text);
 }

@@ -1,10 +1,15 @@
-// What programs share: writing into a text that is lent, one piece behind the other, as far as there is room; and
-// reading a decimal number. No public function has a `requires`, and nothing is assumed.
+// What programs share: writing into a text that is lent, one piece behind the other, as far as there is room; reading a
+// decimal number; and what a program is given, its input and its arguments. No public function has a `requires`, and
+// nothing is assumed.
 #![tactic(auto)]
 
 ghost use Rattle.std.specs.Prelude.{◌≡◌, ◌-◌, ◌≤◌, min};
 ghost use Rattle.pieces.specs.Decimal.{grown, no_number, number_of};
 ghost use Rattle.pieces.specs.Pieces.{Put};
+
+mod input;
+
+pub use input::{argument, argument_count, read_full};
 
 // Numbers go up to 65,535; this stands for none.
 pub const NO_NUMBER: u32 = 0x1_0000;

@@ -1,6 +1,5 @@
 // A unit on a bench: the host that writes and reads its registers, the line that it shares with another party, and
 // the text that says what both do and what is to come of it, read character by character.
-use libc::STDOUT_FILENO;
 use line::numbers::{
     DRIVE_RELEASED, KIND_READ, KIND_REFUSED, KIND_VALUE, KIND_WRITE, SLOT_HIGH, SLOT_IDLE,
     SLOT_LOW, SLOT_START,
@@ -105,7 +104,7 @@ impl Bench {
         }
     }
 
-    pub(crate) fn reads(mut self, character: u8) -> Bench {
+    pub(crate) fn reads(mut self, rt: &impl Print, character: u8) -> Bench {
         self.at = wrapping_add_usize(self.at, 1);
         self.due = false;
         let part = self.part;
@@ -129,13 +128,13 @@ impl Bench {
                 }
                 _ => {
                     let one = [character];
-                    io::write_all(STDOUT_FILENO, &one);
+                    let _ = rt.write_all(&one);
                     self
                 }
             },
             b'$' => {
                 self.part = b'"';
-                self.shows(character);
+                self.shows(rt, character);
                 self
             }
             _ => self.figure(character),
@@ -265,13 +264,14 @@ impl Bench {
         }
     }
 
-    fn shows(self, letter: u8) {
+    // Where nobody reads what is printed, nothing is left to do.
+    fn shows(self, rt: &impl Print, letter: u8) {
         let number = self.number_of(letter);
-        match letter {
-            b'a' | b'1' | b'2' => io::print_hex(STDOUT_FILENO, number, 8),
-            b'v' => io::print_hex(STDOUT_FILENO, number, 2),
-            b'/' => io::write_all(STDOUT_FILENO, b"\n"),
-            _ => io::print_decimal(STDOUT_FILENO, number),
+        let _ = match letter {
+            b'a' | b'1' | b'2' => print!(rt; "{number:08x}"),
+            b'v' => print!(rt; "{number:02x}"),
+            b'/' => print!(rt; "\n"),
+            _ => print!(rt; "{number}"),
         };
     }
 }

@@ -1,12 +1,14 @@
 // Runs one unit over a text of words, levels and expectations: the cases of document 01 that are run and not proved,
 // and a long life of frames. The text is the program's standard input, and says at its head how it is read. A second
 // unit is given the same words in lists, and its answers are compared.
+#![tactic(auto)]
+
 mod bench;
 
 use crate::bench::Bench;
 use answers::answer_word;
-use libc::{STDIN_FILENO, STDOUT_FILENO};
 use list_run::run::run as run_list;
+use pieces::read_full;
 use std::num::wrapping_add_u64;
 use unit::step::Unit;
 
@@ -28,10 +30,10 @@ struct Life {
 }
 
 // A character of the text is read; if it has a word for the unit, the word goes to it and the answer to the bench.
-fn read(life: Life, character: u8) -> Life {
+fn read(rt: &impl Print, life: Life, character: u8) -> Life {
     let unit = life.unit;
     let before = life.bench;
-    let bench = before.reads(character);
+    let bench = before.reads(rt, character);
     if !bench.due {
         return Life { unit, bench };
     }
@@ -78,15 +80,14 @@ fn compared(listed: Listed, words: &[u32], said: [u32; LIST_WORDS]) -> Listed {
     }
 }
 
-fn show(listed: Listed) {
-    io::write_all(STDOUT_FILENO, b"in lists: words ");
-    io::print_decimal(STDOUT_FILENO, listed.words);
-    io::write_all(STDOUT_FILENO, b" wrong ");
-    io::print_decimal(STDOUT_FILENO, listed.wrong);
-    io::write_all(STDOUT_FILENO, b"\n");
+// Where nobody reads what is printed, nothing is left to do.
+fn show(rt: &impl Print, listed: Listed) {
+    let words = listed.words;
+    let wrong = listed.wrong;
+    let _ = println!(rt; "in lists: words {words} wrong {wrong}");
 }
 
-fn run(script: &[u8]) {
+fn run(rt: &impl Print, script: &[u8]) {
     let mut life = Life {
         unit: Unit::reset(),
         bench: Bench::fresh(0),
@@ -98,10 +99,10 @@ fn run(script: &[u8]) {
     for _ in 0..MOST_CHARACTERS {
         let at = life.bench.at;
         if at >= script.len() {
-            show(compared(listed, &words[..held], said));
+            show(rt, compared(listed, &words[..held], said));
             return;
         }
-        life = read(life, script[at]);
+        life = read(rt, life, script[at]);
         let bench = life.bench;
         if !bench.due {
             continue;
@@ -118,12 +119,12 @@ fn run(script: &[u8]) {
     }
 }
 
-fn main() {
+fn main(rt: HostRuntime) {
     let mut input = [0u8; TEXT_BYTES];
-    let count = io::read_full(STDIN_FILENO, &mut input);
+    let count = read_full(&mut rt.stdin(), &mut input);
     if count == TEXT_BYTES {
-        io::write_all(STDOUT_FILENO, b"the text is too long\n");
+        let _ = rt.println("the text is too long");
         return;
     }
-    run(&input[..count]);
+    run(&rt, &input[..count]);
 }

@@ -1,0 +1,53 @@
+// What a program is given: the bytes of its input, and its arguments.
+ghost use Rattle.std.specs.Prelude.{◌≤◌, length, take};
+ghost use Rattle.std.specs.Io.KnownBytes.{Consumes};
+
+use std::env::{Env, FillError};
+use std::io::Read;
+
+// One read: how many bytes it put at the front of the list, none where the input ends or the read fails.
+fn read_some<R: Read>(input: &mut R, bytes: &mut [u8]) -> usize
+    ensures within { result ≤ length bytes.new }
+    ensures read { Consumes (R.remaining input.old) (R.remaining input.new) (take result bytes.new) }
+{
+    input.read(bytes).unwrap_or(0)
+}
+
+// Reads until the list is full, the input ends or a read fails, and gives how many bytes it put at the front of the
+// list. Where the list is full nothing more is asked for.
+pub fn read_full<R: Read>(input: &mut R, bytes: &mut [u8]) -> usize
+    ensures within { result ≤ length bytes.new }
+    ensures read { Consumes (R.remaining input.old) (R.remaining input.new) (take result bytes.new) }
+{
+    let mut done: usize = 0;
+    while done < bytes.len() {
+        let count = read_some(input, &mut bytes[done..]);
+        if count == 0 {
+            return done;
+        }
+        done += count;
+    }
+    done
+}
+
+// An argument goes to the front of the list; the number says how long it is, 0 where it is missing or longer than the
+// list. The program's own name is argument 0.
+pub fn argument(rt: &impl Env, place: usize, bytes: &mut [u8]) -> usize
+    ensures { result ≤ length bytes.new }
+{
+    rt.arg(place, bytes).unwrap_or(0)
+}
+
+fn has_argument(rt: &impl Env, place: usize) -> bool {
+    !matches!(rt.arg(place, &mut []), Err(FillError::NotPresent))
+}
+
+// How many arguments there are, with the program's own name.
+pub fn argument_count(rt: &impl Env) -> usize {
+    for place in 0..usize::MAX {
+        if !has_argument(rt, place) {
+            return place;
+        }
+    }
+    usize::MAX
+}
