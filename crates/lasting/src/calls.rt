@@ -12,6 +12,7 @@ use unit::step::Unit;
 const REFUSED_STATE_SIZE: u32 = 100;
 
 // A reset unit in `state`: 0, or 100 where `state` has not the size of a state; then nothing is written.
+#[tactic(auto, unfolding(keeping::specs::Calls::size_refusal, keeping::specs::Calls::reset_bytes, keeping::specs::Calls::reset_state))]
 pub fn reset(state: &mut [u8]) -> u32
     ensures { Reset state.old result state.new }
 {
@@ -26,6 +27,7 @@ pub fn reset(state: &mut [u8]) -> u32
 // byte at stands at byte at of `answers`; bytes past the last answer keep their contents. 0, or 11 where the bytes are
 // no whole words, or 12 where `answers` is shorter than `words`, or 100 where `state` has not the size of a state; then
 // nothing is run and nothing written.
+#[tactic(auto, unfolding(keeping::specs::Calls::run_refusal, keeping::specs::Calls::run_answers, keeping::specs::Calls::run_bytes, keeping::specs::Calls::run_state, keeping::specs::Calls::size_refusal))]
 pub fn run(state: &mut [u8], words: &[u8], answers: &mut [u8]) -> u32
     ensures { Ran state.old words.now answers.old result state.new
         answers.new }

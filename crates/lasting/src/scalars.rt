@@ -42,6 +42,7 @@ fn flag_byte(flag: bool) -> u8
     flag as u8
 }
 
+#[tactic(auto, unfolding(keeping::specs::Encode::register_bytes))]
 pub(crate) fn registers_bytes(r: Registers) -> [u8; REGISTERS_END]
     ensures { (result ≡ register_bytes r) × RegistersFit r }
 {
@@ -71,6 +72,7 @@ pub(crate) fn registers_bytes(r: Registers) -> [u8; REGISTERS_END]
     ]
 }
 
+#[tactic(auto, unfolding(keeping::specs::Decode::registers_in))]
 pub(crate) fn registers_from(b: &[u8]) -> Registers
     requires { length b.now ≡ registers_end }
     ensures { result ≡ registers_in b.now }
@@ -98,6 +100,7 @@ pub(crate) fn registers_from(b: &[u8]) -> Registers
     }
 }
 
+#[tactic(auto, unfolding(keeping::specs::Encode::place_number))]
 fn field_number(field: Field) -> u8
     ensures { result ≡ place_number (Place.In field 0) }
 {
@@ -111,6 +114,7 @@ fn field_number(field: Field) -> u8
     }
 }
 
+#[tactic(auto, unfolding(keeping::specs::Encode::place_number))]
 fn place_number(place: Place) -> u8
     ensures { result ≡ place_number place }
 {
@@ -120,6 +124,7 @@ fn place_number(place: Place) -> u8
     }
 }
 
+#[tactic(auto, unfolding(keeping::specs::Encode::place_count))]
 fn place_count(place: Place) -> u8
     ensures { result ≡ place_count place }
 {
@@ -130,6 +135,7 @@ fn place_count(place: Place) -> u8
 }
 
 // A number past the last field counts as waiting.
+#[tactic(auto, unfolding(keeping::specs::Decode::place_of))]
 fn place_of(number: u8, n: u8) -> Place
     ensures { result ≡ place_of number n }
 {
@@ -144,6 +150,7 @@ fn place_of(number: u8, n: u8) -> Place
     }
 }
 
+#[tactic(auto, unfolding(keeping::specs::Encode::frame_bytes))]
 pub(crate) fn frame_bytes(f: Frame, idle: bool) -> [u8; FRAME_BYTES]
     ensures { (result ≡ frame_bytes f ++ bit_of idle ∷ []) × FrameFits f }
 {
@@ -175,6 +182,7 @@ pub(crate) fn frame_bytes(f: Frame, idle: bool) -> [u8; FRAME_BYTES]
     ]
 }
 
+#[tactic(auto, unfolding(keeping::specs::Decode::frame_in))]
 pub(crate) fn frame_from(b: &[u8]) -> Frame
     requires { length b.now ≡ frame_end - registers_end }
     ensures { result ≡ frame_in b.now }

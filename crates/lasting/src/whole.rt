@@ -11,6 +11,7 @@ use crate::scalars::{flag, frame_bytes, frame_from, registers_bytes, registers_f
 use rules::state::Core;
 use unit::step::Unit;
 
+#[tactic(auto, unfolding(keeping::specs::Decode::decode))]
 fn core_from(state: &[u8]) -> Core
     requires { length state.now ≡ state_bytes }
     ensures { result ≡ (decode state.now).core }
@@ -22,6 +23,7 @@ fn core_from(state: &[u8]) -> Core
 }
 
 // The unit that bytes keep.
+#[tactic(auto, unfolding(keeping::specs::Decode::decode))]
 pub(crate) fn unit_from(state: &[u8]) -> Unit
     requires { length state.now ≡ state_bytes }
     ensures { state_of result ≡ decode state.now }

@@ -1,0 +1,14 @@
+use borrow.Author.Rules.{rules}
+use native.Mathlib.Omega.{arith}
+use mathlib.Core.Path.{refl}
+use Prim.Native.Nat.{◌-◌}
+use lib.ListN.{drop, length, drop_of_length-le}
+use Rattle.line.proofs.Places.{cut}
+use Rattle.lasting.proofs.Parts.{Filling, none_put, one_put, all_put}
+use Rattle.lasting.proofs.buffers.copy.Given as goal
+
+abbrev pub invariant-loop-i : goal.invariant-loop-i
+invariant-loop-i l = Filling l.from l.initial.to l.to (drop l.i l.from) l.i
+
+abbrev pub decreases-loop-i : goal.decreases-loop-i
+decreases-loop-i l = length l.from - l.i
