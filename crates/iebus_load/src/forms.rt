@@ -17,6 +17,7 @@ fn digit(unit: u32, n: u32) -> u8
     b'0' + (n / unit % 10) as u8
 }
 
+#[tactic(auto, unfolding(crate::specs::Forms::column_of))]
 fn column(n: u32) -> [u8; 5]
     ensures { result ≡ column_of n }
 {

@@ -49,6 +49,7 @@ struct Outcome {
 }
 
 // What the arguments ask for, of which there are so many with the program's own name.
+#[tactic(auto, unfolding(crate::specs::Output::asked_of))]
 fn asked(count: usize, window: &[u8], second: &[u8]) -> Wanted
     ensures { result ≡ asked_of count window.now second.now }
 {

@@ -20,6 +20,7 @@ pub(crate) enum Message {
 // The bytes of the slots that are read.
 const MOST_BYTES: usize = 262144;
 
+#[tactic(auto, unfolding(crate::specs::Output::message_of))]
 pub(crate) fn told(loaded: Loaded, bytes: usize) -> Message
     ensures { result ≡ message_of loaded bytes }
 {

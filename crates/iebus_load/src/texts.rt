@@ -29,6 +29,7 @@ fn percent(part: u32, whole: u32) -> u32
     part * 100 / whole
 }
 
+#[tactic(auto, unfolding(crate::specs::Texts::summary_numbers))]
 fn summary_numbers(f: Facts) -> [u32; 7]
     requires { Sized f }
     ensures { result ≡ summary_numbers f }
@@ -44,6 +45,7 @@ fn summary_numbers(f: Facts) -> [u32; 7]
     ]
 }
 
+#[tactic(auto, unfolding(crate::specs::Texts::summary_of))]
 fn put_summary(text: &mut [u8], f: Facts) -> usize
     requires { Sized f }
     ensures { Put text.old 0 (summary_of f) result text.new }
@@ -58,6 +60,7 @@ fn put_summary(text: &mut [u8], f: Facts) -> usize
     put_form(text, 0, form, &summary_numbers(f))
 }
 
+#[tactic(auto, unfolding(crate::specs::Texts::head_numbers))]
 fn head_numbers(f: Facts) -> [u32; 14]
     requires { Sized f }
     ensures { result ≡ head_numbers f }
@@ -81,6 +84,7 @@ fn head_numbers(f: Facts) -> [u32; 14]
     ]
 }
 
+#[tactic(auto, unfolding(crate::specs::Texts::head_form))]
 fn put_head(text: &mut [u8], f: Facts) -> usize
     requires { Sized f }
     ensures { Put text.old 0 (woven head_form (head_numbers f)) result text.new }
@@ -127,6 +131,7 @@ fn put_curve(text: &mut [u8], at: usize, figures: &[u32]) -> usize
 }
 
 // Where the mark of the largest figure stands, and how far up it goes.
+#[tactic(auto, unfolding(crate::specs::Texts::tail_numbers))]
 fn tail_numbers(f: Facts) -> [u32; 2]
     requires { Sized f }
     ensures { result ≡ tail_numbers f }
@@ -138,6 +143,7 @@ fn tail_numbers(f: Facts) -> [u32; 2]
     ]
 }
 
+#[tactic(auto, unfolding(crate::specs::Texts::tail_form))]
 fn put_tail(text: &mut [u8], at: usize, f: Facts) -> usize
     requires { Sized f }
     ensures { Put text.old at (woven tail_form (tail_numbers f)) result text.new }
@@ -152,6 +158,7 @@ fn put_tail(text: &mut [u8], at: usize, f: Facts) -> usize
     put_form(text, at, form, &tail_numbers(f))
 }
 
+#[tactic(auto, unfolding(crate::specs::Texts::plot_of))]
 fn put_plot(text: &mut [u8], f: Facts, figures: &[u32]) -> usize
     requires { Sized f }
     ensures { Put text.old 0 (plot_of f figures.now) result text.new }
@@ -186,6 +193,7 @@ fn facts_of(w: u32, slots: &[u32], largest: u32, place: usize) -> Facts
 }
 
 // What is written of a log whose figures ended so: nothing where there is none.
+#[tactic(auto, unfolding(crate::specs::Output::whole_by))]
 pub(crate) fn put_loaded(
     plot: bool,
     text: &mut [u8],

@@ -17,6 +17,7 @@ pub(crate) enum Asked {
     Missing,
 }
 
+#[tactic(auto, unfolding(crate::specs::Arguments::range_of))]
 pub(crate) fn range(least: u32, most: u32) -> RangeAsked
     ensures { result ≡ range_of least most }
 {
@@ -32,6 +33,7 @@ pub(crate) fn range(least: u32, most: u32) -> RangeAsked
     })
 }
 
+#[tactic(auto, unfolding(crate::specs::Arguments::setting_of))]
 pub(crate) fn setting(zero: RangeAsked, one: RangeAsked, start: RangeAsked) -> Asked
     ensures { result ≡ setting_of zero one start }
 {

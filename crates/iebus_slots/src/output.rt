@@ -17,6 +17,7 @@ pub(crate) enum Message {
 // The bytes of the pulses that are read.
 const MOST_BYTES: usize = 65536;
 
+#[tactic(auto, unfolding(crate::specs::Output::message_of))]
 pub(crate) fn told(measured: Measured, bytes: usize) -> Message
     ensures { result ≡ message_of measured bytes }
 {

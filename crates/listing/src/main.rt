@@ -28,6 +28,7 @@ fn whole_words(bytes: usize) -> usize
 }
 
 // The listing of an input goes to the front of the text, whose rest stays as it was; the number says how long it is.
+#[tactic(auto, unfolding(crate::specs::Printed::printed_of))]
 fn listed(input: &[u8], text: &mut [u8]) -> usize
     ensures count { result ≡ length (printed_of input.now (length text.old)) }
     ensures written { text.new ≡ printed_of input.now (length text.old) ++ drop result text.old }

@@ -13,13 +13,13 @@ pub returns-clause-count : goal.returns-clause-count
 unfolding dump_of
 returns-clause-count c =
     let places : length (replicate most_words zero) ≡ most_words = length-replicate {0} {A = ℕ} most_words 0 in
-    let is = slots_made c.?before.before.args.input.now c.put_words-count.new.1.0 _ c.put_words-count.ensures.count places c.put_words-count.ensures.written in
+    let is = slots_made c.args.input.now c.put_words-count.new.words _ c.put_words-count.ensures.count places c.put_words-count.ensures.written in
     let made =
-    text_made c.read_log-read.result c.?before.before.args.input.now c.put_words-count.new.1.0 c.read_log-read.new.1.1.0 c.put_words-count.ensures.count places is
+    text_made c.read_log-read.result c.args.input.now c.put_words-count.new.words c.read_log-read.new.records c.put_words-count.ensures.count places is
     c.last_number-last.ensures.0 c.shown-end.ensures.0 c.shown-end.ensures.1
     in
     let right =
-    text_right c.read_log-read.ensures.relied c.?before.before.args.input.now (rw is at c.read_log-read.ensures.whole) (omega (arith, places))
+    text_right c.read_log-read.ensures.relied c.args.input.now (rw is at c.read_log-read.ensures.whole) (omega (arith, places))
     in
     let dump = front (named c.put_dump.ensures (made ∙ right)) in
     dump.count
@@ -28,13 +28,13 @@ pub returns-clause-written : goal.returns-clause-written
 unfolding dump_of
 returns-clause-written c =
     let places : length (replicate most_words zero) ≡ most_words = length-replicate {0} {A = ℕ} most_words 0 in
-    let is = slots_made c.?before.before.args.input.now c.put_words-count.new.1.0 _ c.put_words-count.ensures.count places c.put_words-count.ensures.written in
+    let is = slots_made c.args.input.now c.put_words-count.new.words _ c.put_words-count.ensures.count places c.put_words-count.ensures.written in
     let made =
-    text_made c.read_log-read.result c.?before.before.args.input.now c.put_words-count.new.1.0 c.read_log-read.new.1.1.0 c.put_words-count.ensures.count places is
+    text_made c.read_log-read.result c.args.input.now c.put_words-count.new.words c.read_log-read.new.records c.put_words-count.ensures.count places is
     c.last_number-last.ensures.0 c.shown-end.ensures.0 c.shown-end.ensures.1
     in
     let right =
-    text_right c.read_log-read.ensures.relied c.?before.before.args.input.now (rw is at c.read_log-read.ensures.whole) (omega (arith, places))
+    text_right c.read_log-read.ensures.relied c.args.input.now (rw is at c.read_log-read.ensures.whole) (omega (arith, places))
     in
     let dump = front (named c.put_dump.ensures (made ∙ right)) in
     dump.written
@@ -43,13 +43,13 @@ pub returns-clause-within : goal.returns-clause-within
 unfolding dump_of
 returns-clause-within c =
     let places : length (replicate most_words zero) ≡ most_words = length-replicate {0} {A = ℕ} most_words 0 in
-    let is = slots_made c.?before.before.args.input.now c.put_words-count.new.1.0 _ c.put_words-count.ensures.count places c.put_words-count.ensures.written in
+    let is = slots_made c.args.input.now c.put_words-count.new.words _ c.put_words-count.ensures.count places c.put_words-count.ensures.written in
     let made =
-    text_made c.read_log-read.result c.?before.before.args.input.now c.put_words-count.new.1.0 c.read_log-read.new.1.1.0 c.put_words-count.ensures.count places is
+    text_made c.read_log-read.result c.args.input.now c.put_words-count.new.words c.read_log-read.new.records c.put_words-count.ensures.count places is
     c.last_number-last.ensures.0 c.shown-end.ensures.0 c.shown-end.ensures.1
     in
     let right =
-    text_right c.read_log-read.ensures.relied c.?before.before.args.input.now (rw is at c.read_log-read.ensures.whole) (omega (arith, places))
+    text_right c.read_log-read.ensures.relied c.args.input.now (rw is at c.read_log-read.ensures.whole) (omega (arith, places))
     in
     let dump = front (named c.put_dump.ensures (made ∙ right)) in
     dump.within
@@ -57,4 +57,4 @@ returns-clause-within c =
 pub returns-clause-fits : goal.returns-clause-fits
 unfolding dump_of
 returns-clause-fits c =
-    fits c.read_log-read.ensures.relied c.?before.before.args.input.now
+    fits c.read_log-read.ensures.relied c.args.input.now

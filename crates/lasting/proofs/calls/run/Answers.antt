@@ -38,7 +38,7 @@ pub returns : goal.returns
 unfolding run_refusal run_answers run_bytes run_state size_refusal
 returns c =
     let all = promised _ _ _ _ _ _ _ (sym c.byte_refusal-number.ensures ∙ c.if-number-ne0.false)
-    c.if-state-ne-STATE_BYTES.false c.unit_from-kept.ensures c.run_bytes-ran.ensures.left.0 c.run_bytes-ran.ensures.called.written
+    c.if-state-ne-STATE_BYTES.false c.unit_from-kept.ensures c.run_bytes-ran.ensures.left c.run_bytes-ran.ensures.called.written
     c.put_unit.ensures in
     record {
       ends = sym all.number;

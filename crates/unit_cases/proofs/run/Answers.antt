@@ -1,0 +1,6 @@
+use Rattle.std.proofs.Common.{◌≡◌, ◌-◌, ◌<◌, length, arith, length-take, rules}
+use Rattle.unit_cases.proofs.run.Goals as goal
+
+pub slice_bounds-compared-end : goal.slice_bounds-compared-end
+slice_bounds-compared-end c =
+    omega (arith, c.loop.invariant, length-take c.loop.held c.loop.words)
