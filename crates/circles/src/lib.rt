@@ -4,6 +4,8 @@
 
 // The place of the oldest byte, and how many there are, going round at the end. A count over the room counts as full,
 // and a first place past the end as place 0, so that every value is a span.
+#![tactic(auto)]
+
 #[derive(Clone, Copy)]
 pub struct Span {
     pub first: usize,

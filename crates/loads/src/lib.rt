@@ -4,6 +4,8 @@
 
 // How the figures of a log end: with the largest and the first place where it was reached, without a place where the
 // log is empty, or refused.
+#![tactic(auto)]
+
 #[derive(Clone, Copy)]
 pub enum Loaded {
     Peak(u32, usize),

@@ -1,5 +1,7 @@
 // What a host in C calls of a unit, and nothing else: each function hands on to a library below, whose contract it
 // keeps. No function has a `requires`, and nothing is assumed.
+#![tactic(auto)]
+
 ghost use Rattle.lists.specs.Bytes.{CalledBytes};
 ghost use Rattle.rules.specs.State.{reset};
 ghost use Rattle.keeping.specs.Calls.{Ran, Reset};

@@ -26,7 +26,7 @@ returns c =
     let out = front (named c.put_loaded-end.ensures whole) in
     let is = loaded_is c.args.input.now read c.requires.1 c.load-loaded.ensures.whole in
     record {
-      c.put_words-count.ensures = out.count;
+      counted = out.count;
       written = out.written;
       message = c.told-message.ensures ∙ ap (λ (r : Loaded). message_of r (length c.args.input.now)) is;
       within = out.within;

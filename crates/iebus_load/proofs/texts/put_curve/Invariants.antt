@@ -6,7 +6,7 @@ use Rattle.iebus_load.proofs.Curve.{Curve, curve_all, curve_begun, curve_more}
 use Rattle.iebus_load.proofs.texts.put_curve.Given as goal
 
 abbrev pub invariant-loop-i : goal.invariant-loop-i
-invariant-loop-i l = (length l.end ≡ length l.initial.text) × Curve l.initial.text l.at l.figures i l.i l.end
+invariant-loop-i l = (length l.text ≡ length l.initial.text) × Curve l.initial.text l.at l.figures l.i l.end l.text
 
 abbrev pub decreases-loop-i : goal.decreases-loop-i
-decreases-loop-i l = length l.figures - i
+decreases-loop-i l = length l.figures - l.i
