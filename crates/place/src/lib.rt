@@ -1,10 +1,9 @@
 // The place of a unit in a frame, what it keeps of the frame under way, what it sees of its unit, and what a slot
 // brings about. The rules of a frame are definitions over these (`specs/`). There is no code here: `moves`, `driving`
 // and `frame` are the code, each function of it equal to what the rules give.
-
-// The fields of a frame, in their order.
 #![tactic(auto)]
 
+// The fields of a frame, in their order.
 #[derive(Clone, Copy)]
 pub enum Field {
     Broadcast,

@@ -1,10 +1,9 @@
 // Measured pulses: which slot each becomes, and what is refused. A card that captures the line gives a pulse's width as
 // a least and a most tick count; what becomes of it is said by definitions (`specs/`), with the laws that a user relies
 // on (`proofs/`). There is no code here: `capture` is the code.
-
-// A closed range of widths, in ticks.
 #![tactic(auto)]
 
+// A closed range of widths, in ticks.
 #[derive(Clone, Copy)]
 pub struct Range {
     pub least: u16,
