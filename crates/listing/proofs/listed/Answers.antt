@@ -30,9 +30,9 @@ returns-clause-written c =
     at (c.run_bytes.ensures.called.written ∙ same_answers _ _ _ _ c.reset.ensures.result_value))
     ∙ ap (λ (k : ℕ). bytes_after reset (take k c.args.input.now) (replicate most_bytes 0)) from_zero
     in
-    rw is at c.listing.ensures.written.0
+    rw is at c.listing.ensures.written
 
 pub returns-clause-within : goal.returns-clause-within
 unfolding printed_of
 returns-clause-within c =
-    c.listing.ensures.written.1
+    c.listing.ensures.within

@@ -2,5 +2,5 @@ use Rattle.std.proofs.Common.{◌≡◌, ◌-◌, ◌<◌, length, arith, length
 use Rattle.unit_cases.proofs.run.Goals as goal
 
 pub slice_bounds-compared-end : goal.slice_bounds-compared-end
-slice_bounds-compared-end c =
+slice_bounds-compared-end g c =
     omega (arith, c.loop.invariant, length-take c.loop.held c.loop.words)

@@ -1,0 +1,6 @@
+use borrow.Author.Rules.{rules}
+use Rattle.unit_exports.proofs.iebus_unit_reset.Goals as goal
+
+pub returns : goal.returns
+returns c =
+    c.reset.ensures
