@@ -1,5 +1,4 @@
 use Rattle.rules.specs.Step.{word_of}
-use borrow.Author.Rules.{rules}
 use Rattle.answers.proofs.answer_word.Goals as goal
 
 pub returns-in-Given : goal.returns-in-Given

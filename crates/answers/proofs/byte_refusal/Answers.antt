@@ -1,4 +1,3 @@
-use borrow.Author.Rules.{rules}
 use borrow.Author.Tests.{lt-ltb, le-ltb, eq-eqb, ne_eqb}
 use Rattle.lists.specs.Bytes.{count_refusal}
 use Rattle.answers.proofs.byte_refusal.Goals as goal

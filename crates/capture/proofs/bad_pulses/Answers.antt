@@ -1,7 +1,5 @@
-use borrow.Author.Rules.{rules}
 use Prim.Native.Nat.{◌-◌}
-use lib.ListN.{length}
-use Rattle.line.proofs.Looked.{Looked, looked_all, looked_none, looked_one}
+use Rattle.line.proofs.Looked.{looked_all, looked_none, looked_one}
 use Rattle.pulses.specs.Symbols.{bad_in, bad_pulse}
 use Rattle.capture.proofs.Loops.{none_bad, one_bad}
 use Rattle.capture.proofs.bad_pulses.Goals as goal

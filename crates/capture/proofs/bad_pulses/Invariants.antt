@@ -1,9 +1,7 @@
-use borrow.Author.Rules.{rules}
 use Prim.Native.Nat.{◌-◌}
 use lib.ListN.{length}
-use Rattle.line.proofs.Looked.{Looked, looked_all, looked_none, looked_one}
-use Rattle.pulses.specs.Symbols.{bad_in, bad_pulse}
-use Rattle.capture.proofs.Loops.{none_bad, one_bad}
+use Rattle.line.proofs.Looked.{Looked}
+use Rattle.pulses.specs.Symbols.{bad_in}
 use Rattle.capture.proofs.bad_pulses.Given as goal
 
 abbrev pub invariant-loop-i : goal.invariant-loop-i

@@ -1,5 +1,4 @@
 use Rattle.pulses.specs.Ranges.{bad_ranges}
-use borrow.Author.Rules.{rules}
 use Rattle.capture.proofs.bad_ranges.Goals as goal
 
 pub returns : goal.returns

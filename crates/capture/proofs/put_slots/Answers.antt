@@ -1,8 +1,6 @@
-use borrow.Author.Rules.{rules}
 use native.Mathlib.Omega.{arith}
 use Prim.Native.Nat.{◌-◌}
-use lib.ListN.{length}
-use Rattle.capture.proofs.Loops.{Written, written_all, written_none, written_one}
+use Rattle.capture.proofs.Loops.{written_all, written_none, written_one}
 use Rattle.capture.proofs.put_slots.Goals as goal
 
 pub loop-i-init : goal.loop-i-init

@@ -1,4 +1,3 @@
-use borrow.Author.Rules.{rules}
 use mathlib.Core.Path.{◌∙◌, sym}
 use Rattle.pulses.proofs.Relied.{relied}
 use Rattle.capture.proofs.Ends.{given, pulse, ranges, short}

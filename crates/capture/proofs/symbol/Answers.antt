@@ -1,5 +1,4 @@
 use Rattle.pulses.specs.Symbols.{symbol_of}
-use borrow.Author.Rules.{rules}
 use Rattle.capture.proofs.symbol.Goals as goal
 
 pub returns-then-within : goal.returns-then-within

@@ -1,8 +1,7 @@
 use Prim.Native.Nat.{◌-◌}
 use mathlib.Core.Path.{sym, ◌∙◌}
-use borrow.Author.Rules.{rules}
-use Rattle.contenders.specs.Contest.{contenders_of, first_alike_from, alike}
-use Rattle.contest.proofs.Loops.{Sought, sought_from, sought_one, sought_here, sought_all}
+use Rattle.contenders.specs.Contest.{alike}
+use Rattle.contest.proofs.Loops.{sought_from, sought_one, sought_here, sought_all}
 use Rattle.contest.proofs.alike_from.Goals as goal
 
 pub loop-i-init : goal.loop-i-init

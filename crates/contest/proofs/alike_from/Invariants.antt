@@ -1,8 +1,6 @@
 use Prim.Native.Nat.{◌-◌}
-use mathlib.Core.Path.{sym, ◌∙◌}
-use borrow.Author.Rules.{rules}
 use Rattle.contenders.specs.Contest.{contenders_of, first_alike_from, alike}
-use Rattle.contest.proofs.Loops.{Sought, sought_from, sought_one, sought_here, sought_all}
+use Rattle.contest.proofs.Loops.{Sought}
 use Rattle.contest.proofs.alike_from.Given as goal
 
 abbrev pub invariant-loop-i : goal.invariant-loop-i

@@ -1,5 +1,4 @@
 use native.Mathlib.Omega.{arith}
-use borrow.Author.Rules.{rules}
 use Rattle.contest.proofs.Loops.{contenders_length}
 use Rattle.contest.proofs.Endings.{ends_short, ends_empty, ends_crowded, ends_out_of_range}
 use Rattle.contest.proofs.Endings.{ends_alike, others_named, twin_named}

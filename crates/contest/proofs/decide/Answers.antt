@@ -1,6 +1,5 @@
 use mathlib.Core.Path.{sym, ap, ◌∙◌}
 use native.Mathlib.Omega.{arith}
-use borrow.Author.Rules.{rules}
 use Rattle.contenders.specs.Contest.{number_of}
 use Rattle.contest.proofs.Loops.{contenders_length, contender_at}
 use Rattle.contest.proofs.Endings.{ends_won, winner_named}

@@ -1,9 +1,8 @@
 use Prim.Native.Nat.{◌-◌}
 use mathlib.Core.Bool.{not}
 use mathlib.Core.Path.{sym, ap, ◌∙◌}
-use borrow.Author.Rules.{rules}
-use Rattle.contenders.specs.Contest.{contenders_of, first_out, out_of_range}
-use Rattle.contest.proofs.Loops.{Sought, sought_none, sought_one, sought_here, sought_all}
+use Rattle.contenders.specs.Contest.{out_of_range}
+use Rattle.contest.proofs.Loops.{sought_none, sought_one, sought_here, sought_all}
 use Rattle.contest.proofs.first_out.Goals as goal
 
 pub loop-i-init : goal.loop-i-init

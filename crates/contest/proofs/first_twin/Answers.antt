@@ -1,7 +1,6 @@
 use Prim.Native.Nat.{◌-◌}
 use native.Mathlib.Omega.{arith}
-use borrow.Author.Rules.{rules}
-use Rattle.contest.proofs.Loops.{Untwinned, untwinned_none, untwinned_one, untwinned_all, twin_at}
+use Rattle.contest.proofs.Loops.{untwinned_none, untwinned_one, untwinned_all, twin_at}
 use Rattle.contest.proofs.first_twin.Goals as goal
 
 pub loop-place-init : goal.loop-place-init

@@ -1,7 +1,5 @@
 use Prim.Native.Nat.{◌-◌}
-use native.Mathlib.Omega.{arith}
-use borrow.Author.Rules.{rules}
-use Rattle.contest.proofs.Loops.{Untwinned, untwinned_none, untwinned_one, untwinned_all, twin_at}
+use Rattle.contest.proofs.Loops.{Untwinned}
 use Rattle.contest.proofs.first_twin.Given as goal
 
 abbrev pub invariant-loop-place : goal.invariant-loop-place

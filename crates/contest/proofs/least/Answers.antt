@@ -1,8 +1,6 @@
 use Prim.Native.Nat.{◌-◌}
-use mathlib.Core.Logic.{⊎_elim}
 use native.Mathlib.Omega.{arith}
-use borrow.Author.Rules.{rules}
-use Rattle.contest.proofs.Loops.{LeastOf, least_one, least_stays, least_changes, least_of_all}
+use Rattle.contest.proofs.Loops.{least_one, least_stays, least_changes, least_of_all}
 use Rattle.contest.proofs.least.Goals as goal
 use Rattle.contest.proofs.least.Goals.{then-number, else-number}
 
@@ -13,9 +11,9 @@ loop-i-init c =
 pub loop-i-preserved : goal.loop-i-preserved
 loop-i-preserved c =
     elim c.if-number.branch [
-      then-number w ↦ rw w.best-is (least_changes c.loop-i.invariant c.loop-i-test.true
+      | then-number w ↦ rw w.best-is (least_changes c.loop-i.invariant c.loop-i-test.true
           (omega (arith, w.if-number.true, c.number-in-loop-i.ensures, c.number.ensures)))
-    | else-number w ↦ rw w.best-is (least_stays c.loop-i.invariant c.loop-i-test.true
+      | else-number w ↦ rw w.best-is (least_stays c.loop-i.invariant c.loop-i-test.true
           (omega (arith, w.if-number.false, c.number-in-loop-i.ensures, c.number.ensures)))
     ]
 

@@ -1,6 +1,5 @@
-use borrow.Author.Rules.{rules}
 use Rattle.line.specs.Parity.{level_of}
-use Rattle.contest.proofs.Loops.{Compared, compared_none, compared_one, compared_here, compared_all}
+use Rattle.contest.proofs.Loops.{compared_none, compared_one, compared_here, compared_all}
 use Rattle.contest.proofs.lost_in.Goals as goal
 
 pub loop-left-init : goal.loop-left-init

@@ -1,6 +1,4 @@
-use borrow.Author.Rules.{rules}
-use Rattle.line.specs.Parity.{level_of}
-use Rattle.contest.proofs.Loops.{Compared, compared_none, compared_one, compared_here, compared_all}
+use Rattle.contest.proofs.Loops.{Compared}
 use Rattle.contest.proofs.lost_in.Given as goal
 
 abbrev pub invariant-loop-left : goal.invariant-loop-left

@@ -1,9 +1,8 @@
 use Prim.Native.Nat.{ℕ, ◌-◌}
 use mathlib.Core.Path.{ap, ◌∙◌}
 use native.Mathlib.Omega.{arith}
-use borrow.Author.Rules.{rules}
 use Rattle.contest.specs.Deciding.{differs}
-use Rattle.contest.proofs.Loops.{Written, written_none, written_one, written_all}
+use Rattle.contest.proofs.Loops.{written_none, written_one, written_all}
 use Rattle.contest.proofs.put_losses.Goals as goal
 
 pub loop-i-init : goal.loop-i-init

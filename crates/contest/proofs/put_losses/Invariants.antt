@@ -1,9 +1,5 @@
-use Prim.Native.Nat.{ℕ, ◌-◌}
-use mathlib.Core.Path.{ap, ◌∙◌}
-use native.Mathlib.Omega.{arith}
-use borrow.Author.Rules.{rules}
-use Rattle.contest.specs.Deciding.{differs}
-use Rattle.contest.proofs.Loops.{Written, written_none, written_one, written_all}
+use Prim.Native.Nat.{◌-◌}
+use Rattle.contest.proofs.Loops.{Written}
 use Rattle.contest.proofs.put_losses.Given as goal
 
 abbrev pub invariant-loop-i : goal.invariant-loop-i

@@ -6,7 +6,6 @@ use Rattle.iebus_dump.specs.Dump.{dump_of, most_words}
 use Rattle.iebus_dump.proofs.Fits.{fits}
 use Rattle.pieces.proofs.Pieces.{front, named}
 use Rattle.iebus_dump.proofs.Texts.{slots_made, text_made, text_right}
-use borrow.Author.Rules.{rules}
 use Rattle.iebus_dump.proofs.dumped.Goals as goal
 
 pub returns-clause-count : goal.returns-clause-count

@@ -2,7 +2,6 @@ use Prim.Native.Nat.{ℕ, ◌≤◌}
 use mathlib.Core.Path.{subst, sym}
 use native.Mathlib.Omega.{arith}
 use lib.ListN.{length, length-replicate, replicate}
-use borrow.Author.Rules.{rules}
 use Rattle.iebus_load.specs.Output.{text_bytes}
 use Rattle.iebus_load.proofs.show.Goals as goal
 

@@ -1,4 +1,3 @@
-use borrow.Author.Rules.{rules}
 use Rattle.iebus_slots.proofs.setting_asked.Goals as goal
 
 pub returns : goal.returns

@@ -1,6 +1,5 @@
 use mathlib.Core.Path.{refl}
 use native.Mathlib.Omega.{arith}
-use borrow.Author.Rules.{rules}
 use Rattle.records.proofs.Words.{place_fits, contest_told, word_told}
 use Rattle.line_exports.proofs.contest_word.Goals as goal
 

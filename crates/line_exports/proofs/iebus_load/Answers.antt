@@ -1,4 +1,3 @@
-use borrow.Author.Rules.{rules}
 use Rattle.loads.proofs.Called.{called}
 use Rattle.loads.specs.Load.{largest_after, number_of, place_after}
 use Rattle.line_exports.proofs.iebus_load.Goals as goal

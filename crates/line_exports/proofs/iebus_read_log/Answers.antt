@@ -1,4 +1,3 @@
-use borrow.Author.Rules.{rules}
 use Rattle.logs.proofs.Called.{called}
 use Rattle.logs.specs.Log.{frames_after, number_of}
 use Rattle.line_exports.proofs.iebus_read_log.Goals as goal

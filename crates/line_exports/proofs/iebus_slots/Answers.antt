@@ -1,4 +1,3 @@
-use borrow.Author.Rules.{rules}
 use Rattle.pulses.proofs.Called.{called}
 use Rattle.pulses.proofs.Relied.{relied}
 use Rattle.line_exports.proofs.iebus_slots.Goals as goal

@@ -1,4 +1,3 @@
-use borrow.Author.Rules.{rules}
 use Rattle.line_exports.proofs.setting.Goals as goal
 
 pub returns : goal.returns

@@ -7,7 +7,6 @@ use Rattle.list_run.proofs.Spelled.{same_answers}
 use Rattle.rules.specs.State.{reset}
 use Rattle.text.specs.Last.{most_bytes}
 use Rattle.listing.specs.Printed.{answered_of, printed_of, whole_words}
-use borrow.Author.Rules.{rules}
 use Rattle.listing.proofs.listed.Goals as goal
 
 pub returns-clause-count : goal.returns-clause-count

@@ -1,6 +1,4 @@
-use native.Mathlib.Omega.{arith}
 use borrow.Author.Tests.{lt-ltb, le-ltb}
-use borrow.Author.Rules.{rules}
 use Rattle.listing.proofs.whole_words.Goals as goal
 
 pub returns-then-bytes-gt-MOST_BYTES-clause-value : goal.returns-then-bytes-gt-MOST_BYTES-clause-value

@@ -1,9 +1,8 @@
-use borrow.Author.Rules.{rules}
 use native.Mathlib.Omega.{arith}
 use Prim.Native.Nat.{◌-◌}
-use lib.ListN.{get_or, length}
+use lib.ListN.{get_or}
 use Rattle.loads.proofs.Windows.{busy_le}
-use Rattle.meter.proofs.Loops.{Counted, counted_all, counted_none, counted_one}
+use Rattle.meter.proofs.Loops.{counted_all, counted_none, counted_one}
 use Rattle.meter.proofs.busy_of.Goals as goal
 
 pub loop-i-init : goal.loop-i-init

@@ -1,9 +1,8 @@
-use borrow.Author.Rules.{rules}
 use native.Mathlib.Omega.{arith}
 use Prim.Native.Nat.{◌-◌}
-use lib.ListN.{get_or, length}
+use lib.ListN.{get_or}
 use Rattle.loads.proofs.Windows.{busy_le}
-use Rattle.meter.proofs.Loops.{Written, figure_is, left_counted, written_all, written_none, written_one}
+use Rattle.meter.proofs.Loops.{figure_is, left_counted, written_all, written_none, written_one}
 use Rattle.meter.proofs.put_figures.Goals as goal
 
 pub loop-i-init : goal.loop-i-init

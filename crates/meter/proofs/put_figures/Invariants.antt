@@ -1,9 +1,6 @@
-use borrow.Author.Rules.{rules}
-use native.Mathlib.Omega.{arith}
 use Prim.Native.Nat.{◌-◌}
-use lib.ListN.{get_or, length}
-use Rattle.loads.proofs.Windows.{busy_le}
-use Rattle.meter.proofs.Loops.{Written, figure_is, left_counted, written_all, written_none, written_one}
+use lib.ListN.{length}
+use Rattle.meter.proofs.Loops.{Written}
 use Rattle.meter.proofs.put_figures.Given as goal
 
 abbrev pub invariant-loop-i : goal.invariant-loop-i

@@ -1,9 +1,7 @@
-use borrow.Author.Rules.{rules}
 use mathlib.Core.Path.{refl}
 use Prim.Native.Nat.{◌-◌}
 use lib.Dec.{ltb}
-use lib.ListN.{length}
-use Rattle.line.proofs.Looked.{Looked, looked_all, looked_none, looked_one}
+use Rattle.line.proofs.Looked.{looked_all, looked_none, looked_one}
 use Rattle.line.specs.Numbers.{slot_idle}
 use Rattle.logs.specs.Frames.{stray_in}
 use Rattle.meter.proofs.Loops.{no_stray, one_stray}

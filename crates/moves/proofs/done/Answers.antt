@@ -1,5 +1,4 @@
 use Rattle.place.specs.Frame.{done_of}
-use borrow.Author.Rules.{rules}
 use Rattle.moves.proofs.done.Goals as goal
 
 pub returns : goal.returns

@@ -3,7 +3,6 @@ use Rattle.place.specs.Frame.{shift_of}
 use mathlib.Core.Bool.{Bool, true, false}
 use mir.Val.{bool_byte}
 use native.Mathlib.Omega.{arith}
-use borrow.Author.Rules.{rules}
 use Rattle.moves.proofs.shift_in.Goals as goal
 
 rt_bit_le : (b : Bool) → bool_byte b ≤ 1

@@ -1,5 +1,4 @@
 use Rattle.place.specs.Frame.{shifted_of}
-use borrow.Author.Rules.{rules}
 use Rattle.moves.proofs.shifted.Goals as goal
 
 pub returns : goal.returns

@@ -1,5 +1,4 @@
 use Rattle.rules.specs.Slots.{core_drive}
-use borrow.Author.Rules.{rules}
 use Rattle.output.proofs.core_drive.Goals as goal
 
 pub returns-then-core-takes_part : goal.returns-then-core-takes_part

@@ -1,5 +1,4 @@
 use Rattle.rules.specs.State.{takes_part}
-use borrow.Author.Rules.{rules}
 use Rattle.output.proofs.takes_part.Goals as goal
 
 pub returns : goal.returns

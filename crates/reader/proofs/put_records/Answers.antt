@@ -1,8 +1,6 @@
-use borrow.Author.Rules.{rules}
 use native.Mathlib.Omega.{arith}
 use Prim.Native.Nat.{◌-◌}
-use lib.ListN.{length}
-use Rattle.reader.proofs.Log.{SoFar, levels_there, next_ahead, record_room, so_far_all, so_far_none, so_far_one}
+use Rattle.reader.proofs.Log.{levels_there, next_ahead, record_room, so_far_all, so_far_none, so_far_one}
 use Rattle.reader.proofs.put_records.Goals as goal
 
 pub loop-at-init : goal.loop-at-init

@@ -1,4 +1,3 @@
-use borrow.Author.Rules.{rules}
 use mathlib.Core.Path.{◌∙◌, sym}
 use Rattle.logs.proofs.Relied.{relied}
 use Rattle.reader.proofs.Log.{log_read, log_short, log_stray}

@@ -1,5 +1,4 @@
 use Rattle.rules.specs.Registers.{cmr_refusal}
-use borrow.Author.Rules.{rules}
 use Rattle.refusals.proofs.cmr_refusal.Goals as goal
 
 pub returns-then-not-request-offer : goal.returns-then-not-request-offer

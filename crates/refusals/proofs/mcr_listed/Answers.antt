@@ -1,5 +1,4 @@
 use Rattle.rules.specs.Registers.{mcr_listed}
-use borrow.Author.Rules.{rules}
 use Rattle.refusals.proofs.mcr_listed.Goals as goal
 
 pub returns : goal.returns

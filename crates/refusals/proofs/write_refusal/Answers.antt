@@ -1,6 +1,5 @@
 use Rattle.rules.specs.Registers.{write_refusal}
 use borrow.Author.Tests.{ne_eqb}
-use borrow.Author.Rules.{rules}
 use Rattle.refusals.proofs.write_refusal.Goals as goal
 
 pub returns-in-0 : goal.returns-in-0

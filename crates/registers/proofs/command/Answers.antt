@@ -1,6 +1,5 @@
 use Rattle.rules.specs.Registers.{commanded}
 use borrow.Author.Tests.{eq-eqb, ne_eqb}
-use borrow.Author.Rules.{rules}
 use Rattle.registers.proofs.command.Goals as goal
 
 pub returns-then-v-eq-CMR_REQUEST : goal.returns-then-v-eq-CMR_REQUEST

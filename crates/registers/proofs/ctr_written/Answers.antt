@@ -1,5 +1,4 @@
 use borrow.Author.Tests.{eq-eqb, ne_eqb}
-use borrow.Author.Rules.{rules}
 use Rattle.registers.proofs.ctr_written.Goals as goal
 
 pub returns-then-v-eq-CTR_SET_SLRE : goal.returns-then-v-eq-CTR_SET_SLRE

@@ -1,5 +1,4 @@
 use Rattle.rules.specs.Registers.{lor_copied}
-use borrow.Author.Rules.{rules}
 use Rattle.registers.proofs.lor_copied.Goals as goal
 
 pub returns-then-regs : goal.returns-then-regs

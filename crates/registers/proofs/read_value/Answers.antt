@@ -1,6 +1,5 @@
 use Rattle.rules.specs.Registers.{read_value}
 use borrow.Author.Tests.{ne_eqb}
-use borrow.Author.Rules.{rules}
 use Rattle.registers.proofs.read_value.Goals as goal
 
 pub returns-in-0 : goal.returns-in-0

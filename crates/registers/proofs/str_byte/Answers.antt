@@ -1,5 +1,4 @@
 use Rattle.rules.specs.Registers.{str_byte}
-use borrow.Author.Rules.{rules}
 use Rattle.registers.proofs.str_byte.Goals as goal
 
 pub returns : goal.returns

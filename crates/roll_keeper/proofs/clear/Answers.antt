@@ -1,7 +1,6 @@
-use borrow.Author.Rules.{rules}
 use native.Mathlib.Omega.{arith}
 use Prim.Native.Nat.{◌-◌}
-use Rattle.roll_keeper.proofs.Loops.{Cleared, all_cleared, none_cleared, one_cleared}
+use Rattle.roll_keeper.proofs.Loops.{all_cleared, none_cleared, one_cleared}
 use Rattle.roll_keeper.proofs.clear.Goals as goal
 
 pub loop-at-init : goal.loop-at-init

@@ -1,5 +1,4 @@
 use native.Mathlib.Omega.{arith}
-use borrow.Author.Rules.{rules}
 use Rattle.roll_keeper.proofs.count.Goals as goal
 
 pub overflow_cast-first : goal.overflow_cast-first

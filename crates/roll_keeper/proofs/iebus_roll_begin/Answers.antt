@@ -1,4 +1,3 @@
-use borrow.Author.Rules.{rules}
 use Rattle.rolls.proofs.Relied.{relied}
 use Rattle.roll_keeper.proofs.Ends.{begins, begins_not}
 use Rattle.roll_keeper.proofs.iebus_roll_begin.Goals as goal

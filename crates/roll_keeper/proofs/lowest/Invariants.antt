@@ -1,12 +1,6 @@
-use borrow.Author.Rules.{rules}
-use mathlib.Core.Logic.{⊎_elim}
-use mathlib.Core.Path.{◌∙◌, sym}
-use native.Mathlib.Omega.{arith}
-use Prim.Native.Nat.{◌-◌, ◌<◌}
-use lib.ListN.{length}
-use Rattle.rolls.specs.Kept.{count_in, requests_in}
-use Rattle.rolls.proofs.Bytes.{requests_at, requests_length}
-use Rattle.roll_keeper.proofs.Loops.{LowestOf, lowest_all, lowest_falls, lowest_one, lowest_stays}
+use Prim.Native.Nat.{◌-◌}
+use Rattle.rolls.specs.Kept.{requests_in}
+use Rattle.roll_keeper.proofs.Loops.{LowestOf}
 use Rattle.roll_keeper.proofs.lowest.Given as goal
 
 abbrev pub invariant-loop-i : goal.invariant-loop-i

@@ -1,13 +1,11 @@
-use borrow.Author.Rules.{rules}
 use borrow.Author.Tests.{eq-eqb, ne_eqb}
 use mathlib.Core.Path.{sym, ◌∙◌}
 use native.Mathlib.Omega.{arith}
 use Prim.Native.Nat.{◌-◌, ◌<◌}
 use lib.Dec.{eqb}
-use Rattle.line.proofs.First.{Passed, passed_all, passed_here, passed_none, passed_one}
-use Rattle.rolls.specs.Kept.{count_in, requests_in}
+use Rattle.line.proofs.First.{passed_all, passed_here, passed_none, passed_one}
+use Rattle.rolls.specs.Kept.{count_in}
 use Rattle.rolls.proofs.Bytes.{requests_at, requests_length}
-use Rattle.roll_keeper.specs.Keeping.{number_place}
 use Rattle.roll_keeper.proofs.place_of.Goals as goal
 
 pub loop-i-init : goal.loop-i-init

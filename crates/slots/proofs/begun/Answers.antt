@@ -1,5 +1,4 @@
 use Rattle.place.specs.Frame.{begun_of}
-use borrow.Author.Rules.{rules}
 use Rattle.slots.proofs.begun.Goals as goal
 
 pub returns : goal.returns

@@ -1,5 +1,4 @@
 use Rattle.rules.specs.Slots.{on_idle}
-use borrow.Author.Rules.{rules}
 use Rattle.slots.proofs.on_idle.Goals as goal
 
 pub returns : goal.returns

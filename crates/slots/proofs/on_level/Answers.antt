@@ -1,5 +1,4 @@
 use Rattle.rules.specs.Slots.{on_level}
-use borrow.Author.Rules.{rules}
 use Rattle.slots.proofs.on_level.Goals as goal
 
 pub returns : goal.returns

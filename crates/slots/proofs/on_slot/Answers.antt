@@ -1,4 +1,3 @@
-use borrow.Author.Rules.{rules}
 use Rattle.slots.proofs.on_slot.Goals as goal
 
 pub returns-in-Level : goal.returns-in-Level

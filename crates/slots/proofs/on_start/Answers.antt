@@ -1,5 +1,4 @@
 use Rattle.rules.specs.Slots.{begun, on_start}
-use borrow.Author.Rules.{rules}
 use Rattle.slots.proofs.on_start.Goals as goal
 
 pub returns : goal.returns

@@ -1,4 +1,3 @@
-use borrow.Author.Rules.{rules}
 use Rattle.unit_exports.proofs.iebus_run.Goals as goal
 
 pub returns : goal.returns

@@ -1,5 +1,4 @@
 use Rattle.place.specs.Step.{after_ack}
-use borrow.Author.Rules.{rules}
 use Rattle.frame.proofs.header.after_ack.Goals as goal
 
 pub returns-then-acked : goal.returns-then-acked

@@ -1,5 +1,4 @@
 use Rattle.place.specs.Step.{at_broadcast}
-use borrow.Author.Rules.{rules}
 use Rattle.frame.proofs.header.at_broadcast.Goals as goal
 
 pub returns : goal.returns

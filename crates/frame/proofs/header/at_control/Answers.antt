@@ -1,6 +1,5 @@
 use Rattle.place.specs.Step.{at_control}
 use borrow.Author.Tests.{lt-ltb, eq-eqb, le-ltb, ne_eqb}
-use borrow.Author.Rules.{rules}
 use Rattle.frame.proofs.header.at_control.Goals as goal
 
 pub returns-then-n-lt4 : goal.returns-then-n-lt4

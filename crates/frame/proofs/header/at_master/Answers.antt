@@ -1,6 +1,5 @@
 use Rattle.place.specs.Step.{at_master}
 use borrow.Author.Tests.{lt-ltb, le-ltb}
-use borrow.Author.Rules.{rules}
 use Rattle.frame.proofs.header.at_master.Goals as goal
 
 pub returns-then-n-lt12 : goal.returns-then-n-lt12

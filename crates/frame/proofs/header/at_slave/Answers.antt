@@ -1,6 +1,5 @@
 use Rattle.place.specs.Step.{at_slave}
 use borrow.Author.Tests.{lt-ltb, eq-eqb, le-ltb, ne_eqb}
-use borrow.Author.Rules.{rules}
 use Rattle.frame.proofs.header.at_slave.Goals as goal
 
 pub returns-then-n-lt12 : goal.returns-then-n-lt12

@@ -1,5 +1,4 @@
 use Rattle.place.specs.Step.{control_judged}
-use borrow.Author.Rules.{rules}
 use Rattle.frame.proofs.header.control_judged.Goals as goal
 
 pub returns : goal.returns

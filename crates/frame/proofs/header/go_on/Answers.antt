@@ -1,5 +1,4 @@
 use Rattle.place.specs.Step.{go_on}
-use borrow.Author.Rules.{rules}
 use Rattle.frame.proofs.header.go_on.Goals as goal
 
 pub returns-then-goes : goal.returns-then-goes

@@ -1,5 +1,4 @@
 use Rattle.place.specs.Step.{header_ack}
-use borrow.Author.Rules.{rules}
 use Rattle.frame.proofs.header.header_ack.Goals as goal
 
 pub returns : goal.returns

@@ -1,5 +1,4 @@
 use Rattle.place.specs.Step.{slave_judged}
-use borrow.Author.Rules.{rules}
 use Rattle.frame.proofs.header.slave_judged.Goals as goal
 
 pub returns : goal.returns

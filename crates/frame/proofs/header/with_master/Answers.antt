@@ -1,5 +1,4 @@
 use Rattle.place.specs.Step.{master_of}
-use borrow.Author.Rules.{rules}
 use Rattle.frame.proofs.header.with_master.Goals as goal
 
 pub returns : goal.returns

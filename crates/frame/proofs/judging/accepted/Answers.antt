@@ -1,5 +1,4 @@
 use Rattle.place.specs.Slaves.{accepted_of}
-use borrow.Author.Rules.{rules}
 use Rattle.frame.proofs.judging.accepted.Goals as goal
 
 pub returns-in-Nak : goal.returns-in-Nak

@@ -1,4 +1,3 @@
-use mathlib.Core.Logic.{◌⊎◌, inl, inr, ⊎_elim}
 use mathlib.Core.Path.{◌≡◌, refl, sym}
 use Prim.Native.Nat.{ℕ}
 use native.Mathlib.Omega.{arith}
@@ -7,7 +6,6 @@ use Rattle.place.specs.Slaves.{controls}
 use Rattle.place.specs.declared.Judged.TheVariants.{Nak, Sends}
 use Rattle.frame.proofs.Values.{of_two, of_pair}
 use Rattle.place.specs.Slaves.{by_value}
-use borrow.Author.Rules.{rules}
 use Rattle.frame.proofs.judging.by_value.Goals as goal
 use Rattle.frame.proofs.judging.by_value.Goals.{then-control-lt12, else-control-lt12+else-control-lt14+then-control-lt16}
 

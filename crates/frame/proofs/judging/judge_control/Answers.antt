@@ -1,5 +1,4 @@
 use Rattle.place.specs.Slaves.{control_of}
-use borrow.Author.Rules.{rules}
 use Rattle.frame.proofs.judging.judge_control.Goals as goal
 
 pub returns-then-strange-open_to_all : goal.returns-then-strange-open_to_all

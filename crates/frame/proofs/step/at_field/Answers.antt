@@ -1,5 +1,4 @@
 use Rattle.place.specs.Step.{at_field}
-use borrow.Author.Rules.{rules}
 use Rattle.frame.proofs.step.at_field.Goals as goal
 
 pub returns-in-Broadcast : goal.returns-in-Broadcast

@@ -1,5 +1,4 @@
 use Rattle.place.specs.Masters.{clash_of}
-use borrow.Author.Rules.{rules}
 use Rattle.frame.proofs.step.clash.Goals as goal
 
 pub returns : goal.returns

@@ -1,5 +1,4 @@
 use Rattle.place.specs.Masters.{contested_of}
-use borrow.Author.Rules.{rules}
 use Rattle.frame.proofs.step.contested.Goals as goal
 
 pub returns-in-Broadcast : goal.returns-in-Broadcast

@@ -1,5 +1,4 @@
 use Rattle.frame.proofs.Loss.{goes_through, overruled_ends}
-use borrow.Author.Rules.{rules}
 use Rattle.frame.proofs.step.in_field.Goals as goal
 
 pub returns-then-overruled-contested : goal.returns-then-overruled-contested

@@ -1,5 +1,4 @@
 use Rattle.place.specs.Step.{level_of}
-use borrow.Author.Rules.{rules}
 use Rattle.frame.proofs.step.level.Goals as goal
 
 pub returns-in-Waiting : goal.returns-in-Waiting

@@ -1,5 +1,4 @@
 use Rattle.place.specs.Masters.{own_bit}
-use borrow.Author.Rules.{rules}
 use Rattle.frame.proofs.step.own_bit.Goals as goal
 
 pub returns-in-Broadcast : goal.returns-in-Broadcast

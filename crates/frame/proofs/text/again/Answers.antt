@@ -1,5 +1,4 @@
 use Rattle.place.specs.Step.{again_of}
-use borrow.Author.Rules.{rules}
 use Rattle.frame.proofs.text.again.Goals as goal
 
 pub returns-then-last : goal.returns-then-last

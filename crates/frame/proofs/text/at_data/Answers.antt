@@ -1,6 +1,5 @@
 use Rattle.place.specs.Step.{at_data}
 use borrow.Author.Tests.{lt-ltb, eq-eqb, le-ltb, ne_eqb}
-use borrow.Author.Rules.{rules}
 use Rattle.frame.proofs.text.at_data.Goals as goal
 
 pub returns-then-n-lt8 : goal.returns-then-n-lt8

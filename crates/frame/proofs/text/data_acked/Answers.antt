@@ -1,5 +1,4 @@
 use Rattle.place.specs.Step.{data_acked}
-use borrow.Author.Rules.{rules}
 use Rattle.frame.proofs.text.data_acked.Goals as goal
 
 pub returns-then-text_ack : goal.returns-then-text_ack

@@ -1,5 +1,4 @@
 use Rattle.place.specs.Step.{data_judged}
-use borrow.Author.Rules.{rules}
 use Rattle.frame.proofs.text.data_judged.Goals as goal
 
 pub returns-then-frame : goal.returns-then-frame

@@ -1,5 +1,4 @@
 use Rattle.place.specs.Step.{ends_of}
-use borrow.Author.Rules.{rules}
 use Rattle.frame.proofs.text.ends.Goals as goal
 
 pub returns-then-whole : goal.returns-then-whole

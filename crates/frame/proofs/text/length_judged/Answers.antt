@@ -1,5 +1,4 @@
 use Rattle.place.specs.Step.{length_judged}
-use borrow.Author.Rules.{rules}
 use Rattle.frame.proofs.text.length_judged.Goals as goal
 
 pub returns-then-frame : goal.returns-then-frame

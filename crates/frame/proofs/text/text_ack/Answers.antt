@@ -1,5 +1,4 @@
 use Rattle.place.specs.Step.{text_ack}
-use borrow.Author.Rules.{rules}
 use Rattle.frame.proofs.text.text_ack.Goals as goal
 
 pub returns : goal.returns

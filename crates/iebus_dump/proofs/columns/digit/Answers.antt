@@ -1,6 +1,5 @@
 use borrow.Author.Tests.{not-true, not-false}
 use borrow.Author.Tests.{lt-ltb, le-ltb}
-use borrow.Author.Rules.{rules}
 use Rattle.iebus_dump.proofs.columns.digit.Goals as goal
 
 pub returns-then-not-given : goal.returns-then-not-given

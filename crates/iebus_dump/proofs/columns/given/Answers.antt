@@ -1,5 +1,4 @@
 use Rattle.iebus_dump.proofs.Tables.{given_at}
-use borrow.Author.Rules.{rules}
 use Rattle.iebus_dump.proofs.columns.given.Goals as goal
 
 pub returns : goal.returns

@@ -3,7 +3,6 @@ use Prim.Native.Nat.{◌<◌}
 use borrow.Author.Tests.{eq-eqb, le-ltb, lt-ltb, ne_eqb}
 use Rattle.iebus_dump.specs.Line.{bit_column}
 use Rattle.iebus_dump.specs.Writing.{kind_by}
-use borrow.Author.Rules.{rules}
 use Rattle.iebus_dump.proofs.columns.kind.Goals as goal
 
 pub returns-then-given-eq0 : goal.returns-then-given-eq0

@@ -1,5 +1,4 @@
 use Rattle.iebus_dump.proofs.Digits.{length_list}
-use borrow.Author.Rules.{rules}
 use Rattle.iebus_dump.proofs.columns.length.Goals as goal
 
 pub returns : goal.returns

@@ -1,11 +1,10 @@
-use Prim.Native.Nat.{◌<◌, ◌≤◌, ◌-◌}
+use Prim.Native.Nat.{◌<◌, ◌-◌}
 use native.Mathlib.Omega.{arith}
-use mathlib.Core.Path.{◌≡◌, sym, ap, refl}
+use mathlib.Core.Path.{sym, ap, refl}
 use borrow.Author.Rules.{rules}
-use lib.ListN.{length, take}
+use lib.ListN.{length}
 use lib.Seq.{take_all}
 use Rattle.iebus_dump.specs.Line.{bytes_column}
-use Rattle.pieces.specs.Pieces.{Put}
 use Rattle.pieces.proofs.Pieces.{named, nothing, then}
 use Rattle.iebus_dump.proofs.Written.{bytes_more, no_bytes}
 use Rattle.iebus_dump.proofs.lines.put_bytes.Goals as goal

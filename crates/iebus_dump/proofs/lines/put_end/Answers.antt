@@ -5,7 +5,6 @@ use lib.Dec.{eqb}
 use lib.ListN.{take, drop}
 use Rattle.pieces.proofs.Pieces.{named, then}
 use Rattle.iebus_dump.proofs.Tables.{ending-at, mark_by, mark_table, places_rise}
-use borrow.Author.Rules.{rules}
 use Rattle.iebus_dump.proofs.lines.put_end.Goals as goal
 
 pub slice_bounds-put-count : goal.slice_bounds-put-count

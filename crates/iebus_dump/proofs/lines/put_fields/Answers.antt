@@ -6,7 +6,6 @@ use Rattle.pieces.proofs.Pieces.{named, then}
 use Rattle.iebus_dump.proofs.Digits.{fields_made}
 use Rattle.iebus_dump.proofs.Tables.{name-by, name_table}
 use Rattle.iebus_dump.specs.Line.{fields_of}
-use borrow.Author.Rules.{rules}
 use Rattle.iebus_dump.proofs.lines.put_fields.Goals as goal
 
 pub returns : goal.returns

@@ -2,7 +2,6 @@ use borrow.Author.Tests.{ne_eqb}
 use Rattle.pieces.proofs.Pieces.{named, nothing, then}
 use Rattle.iebus_dump.proofs.Written.{line_made, part_cut}
 use Rattle.iebus_dump.specs.Writing.{slot_line}
-use borrow.Author.Rules.{rules}
 use Rattle.iebus_dump.proofs.lines.put_line.Goals as goal
 
 pub returns-then-slot-ne-SLOT_START : goal.returns-then-slot-ne-SLOT_START

@@ -1,10 +1,10 @@
 -- `put_lines` meets its contract. The loop's invariant: the lines of the slots before the place stand in the text.
-use Prim.Native.Nat.{ℕ, ◌+◌, ◌<◌, ◌≤◌, ◌-◌, min}
+use Prim.Native.Nat.{ℕ, ◌+◌, ◌<◌, ◌-◌, min}
 use native.Mathlib.Omega.{arith}
-use mathlib.Core.Path.{◌≡◌, ◌∙◌, ap, refl}
+use mathlib.Core.Path.{◌∙◌, ap, refl}
 use borrow.Author.Rules.{rules}
 use lib.ListN.{length}
-use Rattle.iebus_dump.proofs.Written.{LinesUpTo, all_lines, begun, from_place, one_more}
+use Rattle.iebus_dump.proofs.Written.{all_lines, begun, from_place, one_more}
 use Rattle.iebus_dump.proofs.lines.put_lines.Goals as goal
 
 pub loop-i-init : goal.loop-i-init

@@ -1,6 +1,5 @@
 use mathlib.Core.Path.{sym}
 use lib.ListN.{get_or-eq_default}
-use borrow.Author.Rules.{rules}
 use Rattle.iebus_dump.proofs.lines.word.Goals as goal
 
 pub returns : goal.returns

@@ -1,7 +1,6 @@
 use Rattle.pieces.proofs.Pieces.{named, then}
 use Rattle.iebus_dump.proofs.Tables.{last-at, lasts_rise}
 use Rattle.iebus_dump.specs.Writing.{text_by}
-use borrow.Author.Rules.{rules}
 use Rattle.iebus_dump.proofs.whole.put_dump.Goals as goal
 
 pub slice_bounds-put-count : goal.slice_bounds-put-count

@@ -1,4 +1,3 @@
-use borrow.Author.Rules.{rules}
 use Rattle.iebus_load.specs.Forms.{column_of}
 use Rattle.iebus_load.proofs.forms.column.Goals as goal
 

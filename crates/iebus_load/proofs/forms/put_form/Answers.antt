@@ -1,9 +1,9 @@
 use borrow.Author.Rules.{rules}
 use native.Mathlib.Omega.{arith}
-use mathlib.Core.Path.{◌≡◌, ◌∙◌}
+use mathlib.Core.Path.{◌∙◌}
 use Prim.Native.Nat.{◌-◌}
-use lib.ListN.{get_or, length}
-use Rattle.iebus_load.proofs.Woven.{Woven, count_le, woven_all, woven_begun, woven_more}
+use lib.ListN.{get_or}
+use Rattle.iebus_load.proofs.Woven.{count_le, woven_all, woven_begun, woven_more}
 use Rattle.iebus_load.proofs.forms.put_form.Goals as goal
 
 pub loop-i-init : goal.loop-i-init

@@ -1,9 +1,7 @@
-use borrow.Author.Rules.{rules}
-use native.Mathlib.Omega.{arith}
-use mathlib.Core.Path.{◌≡◌, ◌∙◌}
+use mathlib.Core.Path.{◌≡◌}
 use Prim.Native.Nat.{◌-◌}
-use lib.ListN.{get_or, length}
-use Rattle.iebus_load.proofs.Woven.{Woven, count_le, woven_all, woven_begun, woven_more}
+use lib.ListN.{length}
+use Rattle.iebus_load.proofs.Woven.{Woven}
 use Rattle.iebus_load.proofs.forms.put_form.Given as goal
 
 abbrev pub invariant-loop-i : goal.invariant-loop-i

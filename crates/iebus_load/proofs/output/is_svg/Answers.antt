@@ -1,4 +1,3 @@
-use borrow.Author.Rules.{rules}
 use mathlib.Core.Path.{sym}
 use Rattle.iebus_load.proofs.Letters.{other, three}
 use Rattle.iebus_load.proofs.output.is_svg.Goals as goal

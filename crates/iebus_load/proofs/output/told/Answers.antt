@@ -1,4 +1,3 @@
-use borrow.Author.Rules.{rules}
 use borrow.Author.Tests.{eq-eqb, le-ltb, lt-ltb, ne_eqb}
 use Rattle.iebus_load.specs.Output.{message_of}
 use Rattle.iebus_load.proofs.output.told.Goals as goal

@@ -1,4 +1,3 @@
-use borrow.Author.Rules.{rules}
 use native.Mathlib.Omega.{arith}
 use Rattle.loads.proofs.Windows.{busy_most}
 use Rattle.iebus_load.proofs.texts.facts_of.Goals as goal

@@ -1,4 +1,3 @@
-use borrow.Author.Rules.{rules}
 use Rattle.iebus_load.specs.Texts.{head_numbers}
 use Rattle.iebus_load.proofs.texts.head_numbers.Goals as goal
 

@@ -1,8 +1,7 @@
-use borrow.Author.Rules.{rules}
-use mathlib.Core.Path.{◌≡◌, ◌∙◌}
+use mathlib.Core.Path.{◌≡◌}
 use Prim.Native.Nat.{◌-◌}
 use lib.ListN.{length}
-use Rattle.iebus_load.proofs.Curve.{Curve, curve_all, curve_begun, curve_more}
+use Rattle.iebus_load.proofs.Curve.{Curve}
 use Rattle.iebus_load.proofs.texts.put_curve.Given as goal
 
 abbrev pub invariant-loop-i : goal.invariant-loop-i

@@ -1,4 +1,3 @@
-use borrow.Author.Rules.{rules}
 use mathlib.Core.Path.{◌∙◌, ap}
 use Rattle.pieces.proofs.Pieces.{named, nothing}
 use Rattle.iebus_load.specs.Output.{text_of, whole_by}

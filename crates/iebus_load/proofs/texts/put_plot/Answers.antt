@@ -1,4 +1,3 @@
-use borrow.Author.Rules.{rules}
 use Rattle.pieces.proofs.Pieces.{then}
 use Rattle.iebus_load.specs.Texts.{plot_of}
 use Rattle.iebus_load.proofs.texts.put_plot.Goals as goal

@@ -1,4 +1,3 @@
-use borrow.Author.Rules.{rules}
 use Rattle.pieces.proofs.Pieces.{named}
 use mathlib.Core.List.{List}
 use mathlib.Core.Path.{ap}

@@ -1,4 +1,3 @@
-use borrow.Author.Rules.{rules}
 use Rattle.pieces.proofs.Pieces.{named}
 use Rattle.iebus_load.proofs.texts.put_text.Goals as goal
 

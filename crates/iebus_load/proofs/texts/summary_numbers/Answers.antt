@@ -1,4 +1,3 @@
-use borrow.Author.Rules.{rules}
 use Rattle.iebus_load.specs.Texts.{summary_numbers}
 use Rattle.iebus_load.proofs.texts.summary_numbers.Goals as goal
 

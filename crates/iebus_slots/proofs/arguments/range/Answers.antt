@@ -1,4 +1,3 @@
-use borrow.Author.Rules.{rules}
 use borrow.Author.Tests.{le-ltb, lt-ltb}
 use Rattle.iebus_slots.specs.Arguments.{range_of}
 use Rattle.iebus_slots.proofs.arguments.range.Goals as goal

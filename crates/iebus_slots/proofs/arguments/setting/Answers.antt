@@ -1,4 +1,3 @@
-use borrow.Author.Rules.{rules}
 use Rattle.iebus_slots.specs.Arguments.{setting_of}
 use Rattle.iebus_slots.proofs.arguments.setting.Goals as goal
 

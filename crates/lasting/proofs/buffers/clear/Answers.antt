@@ -1,8 +1,7 @@
-use borrow.Author.Rules.{rules}
 use native.Mathlib.Omega.{arith}
-use Prim.Native.Nat.{ℕ, ◌+◌, ◌-◌}
-use lib.ListN.{length, replicate}
-use Rattle.lasting.proofs.Parts.{Filling, none_put, one_put, all_put, zeros_all, zeros_next, zeros_none}
+use Prim.Native.Nat.{◌+◌, ◌-◌}
+use lib.ListN.{length}
+use Rattle.lasting.proofs.Parts.{none_put, one_put, all_put, zeros_all, zeros_next, zeros_none}
 use Rattle.lasting.proofs.buffers.clear.Goals as goal
 
 pub loop-i-init : goal.loop-i-init

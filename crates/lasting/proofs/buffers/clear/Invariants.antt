@@ -1,8 +1,6 @@
-use borrow.Author.Rules.{rules}
-use native.Mathlib.Omega.{arith}
-use Prim.Native.Nat.{ℕ, ◌+◌, ◌-◌}
+use Prim.Native.Nat.{ℕ, ◌-◌}
 use lib.ListN.{length, replicate}
-use Rattle.lasting.proofs.Parts.{Filling, none_put, one_put, all_put, zeros_all, zeros_next, zeros_none}
+use Rattle.lasting.proofs.Parts.{Filling}
 use Rattle.lasting.proofs.buffers.clear.Given as goal
 
 abbrev pub invariant-loop-i : goal.invariant-loop-i

@@ -1,10 +1,9 @@
-use borrow.Author.Rules.{rules}
 use native.Mathlib.Omega.{arith}
 use mathlib.Core.Path.{refl}
 use Prim.Native.Nat.{◌-◌}
-use lib.ListN.{drop, length, drop_of_length-le}
+use lib.ListN.{drop_of_length-le}
 use Rattle.line.proofs.Places.{cut}
-use Rattle.lasting.proofs.Parts.{Filling, none_put, one_put, all_put}
+use Rattle.lasting.proofs.Parts.{none_put, one_put, all_put}
 use Rattle.lasting.proofs.buffers.copy.Goals as goal
 
 pub loop-i-init : goal.loop-i-init

@@ -1,10 +1,6 @@
-use borrow.Author.Rules.{rules}
-use native.Mathlib.Omega.{arith}
-use mathlib.Core.Path.{refl}
 use Prim.Native.Nat.{◌-◌}
-use lib.ListN.{drop, length, drop_of_length-le}
-use Rattle.line.proofs.Places.{cut}
-use Rattle.lasting.proofs.Parts.{Filling, none_put, one_put, all_put}
+use lib.ListN.{drop, length}
+use Rattle.lasting.proofs.Parts.{Filling}
 use Rattle.lasting.proofs.buffers.copy.Given as goal
 
 abbrev pub invariant-loop-i : goal.invariant-loop-i

@@ -1,4 +1,3 @@
-use borrow.Author.Rules.{rules}
 use Rattle.lasting.proofs.Parts.{buffer_read}
 use Rattle.lasting.proofs.buffers.rbf_from.Goals as goal
 

@@ -1,10 +1,9 @@
 use borrow.Author.Rules.{rules}
 use native.Mathlib.Omega.{arith}
 use mathlib.Core.Path.{ap}
-use Prim.Native.Nat.{◌-◌, ◌<◌}
-use lib.ListN.{length}
+use Prim.Native.Nat.{◌-◌}
 use Rattle.circles.specs.Circle.{items}
-use Rattle.lasting.proofs.Parts.{Filling, none_put, one_put, all_put, items_next, items_none}
+use Rattle.lasting.proofs.Parts.{none_put, one_put, all_put, items_next, items_none}
 use Rattle.lasting.proofs.buffers.unroll.Goals as goal
 
 pub loop-i-init : goal.loop-i-init

@@ -1,10 +1,7 @@
-use borrow.Author.Rules.{rules}
-use native.Mathlib.Omega.{arith}
-use mathlib.Core.Path.{ap}
 use Prim.Native.Nat.{◌-◌, ◌<◌}
 use lib.ListN.{length}
 use Rattle.circles.specs.Circle.{items}
-use Rattle.lasting.proofs.Parts.{Filling, none_put, one_put, all_put, items_next, items_none}
+use Rattle.lasting.proofs.Parts.{Filling}
 use Rattle.lasting.proofs.buffers.unroll.Given as goal
 
 abbrev pub invariant-loop-i : goal.invariant-loop-i

@@ -1,4 +1,3 @@
-use borrow.Author.Rules.{rules}
 use Rattle.keeping.specs.Encode.{place_number}
 use Rattle.lasting.proofs.scalars.field_number.Goals as goal
 

@@ -1,4 +1,3 @@
-use borrow.Author.Rules.{rules}
 use Rattle.keeping.specs.Decode.{frame_in}
 use Rattle.lasting.proofs.scalars.frame_from.Goals as goal
 

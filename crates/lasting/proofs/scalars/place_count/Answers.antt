@@ -1,4 +1,3 @@
-use borrow.Author.Rules.{rules}
 use Rattle.keeping.specs.Encode.{place_count}
 use Rattle.lasting.proofs.scalars.place_count.Goals as goal
 

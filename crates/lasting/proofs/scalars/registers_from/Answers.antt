@@ -1,4 +1,3 @@
-use borrow.Author.Rules.{rules}
 use Rattle.keeping.specs.Decode.{registers_in}
 use Rattle.lasting.proofs.scalars.registers_from.Goals as goal
 

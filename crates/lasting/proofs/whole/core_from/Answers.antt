@@ -1,4 +1,3 @@
-use borrow.Author.Rules.{rules}
 use Rattle.keeping.specs.Decode.{decode}
 use Rattle.lasting.proofs.whole.core_from.Goals as goal
 

@@ -1,4 +1,3 @@
-use borrow.Author.Rules.{rules}
 use mathlib.Core.Path.{◌∙◌}
 use Rattle.unit.specs.Unit.{state_of}
 use Rattle.lasting.proofs.Parts.{circle_most, kept}

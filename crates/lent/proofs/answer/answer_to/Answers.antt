@@ -1,4 +1,3 @@
-use borrow.Author.Rules.{rules}
 use Rattle.lent.proofs.answer.answer_to.Goals as goal
 
 pub returns-in-Taken : goal.returns-in-Taken

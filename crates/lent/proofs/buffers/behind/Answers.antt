@@ -1,5 +1,4 @@
 use borrow.Author.Tests.{lt-ltb, le-ltb}
-use borrow.Author.Rules.{rules}
 use Rattle.lent.proofs.buffers.behind.Goals as goal
 
 pub returns-then-far-room : goal.returns-then-far-room

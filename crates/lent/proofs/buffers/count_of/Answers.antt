@@ -1,4 +1,3 @@
-use borrow.Author.Rules.{rules}
 use mathlib.Core.Path.{sym, ◌∙◌}
 use Rattle.circles.specs.Circle.{buffer}
 use Rattle.circles.proofs.Places.{list_length}

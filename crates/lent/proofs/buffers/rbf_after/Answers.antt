@@ -1,5 +1,4 @@
 use mathlib.Core.Path.{◌∙◌}
-use borrow.Author.Rules.{rules}
 use Rattle.circles.specs.Buffers.{stored_by}
 use Rattle.circles.proofs.Circle.{push_alike}
 use Rattle.lent.proofs.buffers.rbf_after.Goals as goal

@@ -1,4 +1,3 @@
-use borrow.Author.Rules.{rules}
 use mathlib.Core.Path.{ap}
 use Rattle.circles.specs.Buffers.{sent_by}
 use Rattle.circles.specs.Circle.{buffer}

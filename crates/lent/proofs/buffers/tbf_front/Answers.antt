@@ -1,4 +1,3 @@
-use borrow.Author.Rules.{rules}
 use native.Mathlib.Omega.{arith}
 use Rattle.line.specs.Numbers.{tbf_bytes}
 use Rattle.circles.specs.Circle.{buffer, circle_of, items}

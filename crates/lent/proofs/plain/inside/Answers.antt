@@ -1,5 +1,4 @@
 use Rattle.lent.specs.Plain.{inside_of}
-use borrow.Author.Rules.{rules}
 use Rattle.lent.proofs.plain.inside.Goals as goal
 
 pub returns-in-Broadcast : goal.returns-in-Broadcast

@@ -1,5 +1,4 @@
 use Rattle.lent.specs.Plain.{listened_of}
-use borrow.Author.Rules.{rules}
 use Rattle.lent.proofs.plain.listened.Goals as goal
 
 pub returns-in-Waiting : goal.returns-in-Waiting

@@ -1,5 +1,4 @@
 use Rattle.lent.specs.Plain.{plain_of}
-use borrow.Author.Rules.{rules}
 use Rattle.lent.proofs.plain.plain.Goals as goal
 
 pub returns-in-Waiting : goal.returns-in-Waiting

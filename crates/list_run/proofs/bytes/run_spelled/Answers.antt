@@ -1,11 +1,8 @@
 use native.Mathlib.Omega.{arith}
-use borrow.Author.Rules.{rules}
 use mathlib.Core.Path.{sym, ap, ◌∙◌}
 use Prim.Native.Nat.{◌-◌}
-use lib.ListN.{length}
-use Rattle.unit.specs.Unit.{unit_in}
 use Rattle.rules.specs.Step.{word_of}
-use Rattle.list_run.proofs.Spelled.{SpelledIn, none_spelled_in, one_spelled_in, all_spelled, all_spelled_over}
+use Rattle.list_run.proofs.Spelled.{none_spelled_in, one_spelled_in, all_spelled, all_spelled_over}
 use Rattle.list_run.proofs.bytes.run_spelled.Goals as goal
 
 pub loop-at-init : goal.loop-at-init

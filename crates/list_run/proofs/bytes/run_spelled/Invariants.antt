@@ -1,11 +1,7 @@
-use native.Mathlib.Omega.{arith}
-use borrow.Author.Rules.{rules}
-use mathlib.Core.Path.{sym, ap, ◌∙◌}
 use Prim.Native.Nat.{◌-◌}
 use lib.ListN.{length}
 use Rattle.unit.specs.Unit.{unit_in}
-use Rattle.rules.specs.Step.{word_of}
-use Rattle.list_run.proofs.Spelled.{SpelledIn, none_spelled_in, one_spelled_in, all_spelled, all_spelled_over}
+use Rattle.list_run.proofs.Spelled.{SpelledIn}
 use Rattle.list_run.proofs.bytes.run_spelled.Given as goal
 
 abbrev pub invariant-loop-at : goal.invariant-loop-at

@@ -1,10 +1,7 @@
-use borrow.Author.Rules.{rules}
-use mathlib.Core.Path.{sym, ap, ◌∙◌}
 use Prim.Native.Nat.{◌-◌}
 use lib.ListN.{length}
 use Rattle.unit.specs.Unit.{unit_in}
-use Rattle.rules.specs.Step.{word_of}
-use Rattle.list_run.proofs.Underway.{UnderwayIn, none_run_in, one_run_in, all_over, all_run}
+use Rattle.list_run.proofs.Underway.{UnderwayIn}
 use Rattle.list_run.proofs.run.run_lent.Given as goal
 
 abbrev pub invariant-loop-i : goal.invariant-loop-i

@@ -1,6 +1,5 @@
-use borrow.Author.Rules.{rules}
 use Prim.Native.Nat.{◌-◌}
-use Rattle.reader.proofs.Entries.{Compared, compared_all, compared_here, compared_none, compared_one}
+use Rattle.reader.proofs.Entries.{Compared}
 use Rattle.reader.proofs.entry.alike_bytes.Given as goal
 
 abbrev pub invariant-loop-i : goal.invariant-loop-i

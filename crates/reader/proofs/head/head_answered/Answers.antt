@@ -1,4 +1,3 @@
-use borrow.Author.Rules.{rules}
 use mathlib.Core.Path.{◌∙◌, ap}
 use Rattle.logs.specs.Fields.{length_in}
 use Rattle.reader.proofs.Heads.{nak_control, nak_length, no_control, no_length, whole_header}

@@ -1,4 +1,3 @@
-use borrow.Author.Rules.{rules}
 use borrow.Author.Tests.{leb-true}
 use mathlib.Core.Bool.{false≢true}
 use native.Mathlib.Omega.{arith}

@@ -1,8 +1,6 @@
-use borrow.Author.Rules.{rules}
 use native.Mathlib.Omega.{arith}
 use Prim.Native.Nat.{◌-◌}
-use lib.ListN.{length}
-use Rattle.reader.proofs.Slots.{Followed, followed_ahead, followed_all, followed_here, followed_none}
+use Rattle.reader.proofs.Slots.{followed_ahead, followed_all, followed_here, followed_none}
 use Rattle.reader.proofs.Slots.{followed_one}
 use Rattle.reader.proofs.levels.levels_end.Goals as goal
 

@@ -1,7 +1,5 @@
-use borrow.Author.Rules.{rules}
 use Prim.Native.Nat.{◌-◌}
-use lib.ListN.{length}
-use Rattle.reader.proofs.Slots.{Searched, searched_all, searched_here, searched_none, searched_one}
+use Rattle.reader.proofs.Slots.{searched_all, searched_here, searched_none, searched_one}
 use Rattle.reader.proofs.levels.next_start.Goals as goal
 
 pub loop-i-init : goal.loop-i-init

@@ -1,7 +1,6 @@
-use borrow.Author.Rules.{rules}
 use Prim.Native.Nat.{◌-◌}
 use lib.ListN.{length}
-use Rattle.reader.proofs.Slots.{Searched, searched_all, searched_here, searched_none, searched_one}
+use Rattle.reader.proofs.Slots.{Searched}
 use Rattle.reader.proofs.levels.next_start.Given as goal
 
 abbrev pub invariant-loop-i : goal.invariant-loop-i

@@ -1,8 +1,8 @@
 use borrow.Author.Rules.{rules}
 use mathlib.Core.Path.{◌≡◌}
 use native.Mathlib.Omega.{arith}
-use Prim.Native.Nat.{◌+◌, ◌-◌, ◌<◌, ◌≤◌}
-use Rattle.reader.proofs.Slots.{Counted, counted_fits, counted_none, counted_one}
+use Prim.Native.Nat.{◌+◌, ◌-◌, ◌<◌}
+use Rattle.reader.proofs.Slots.{counted_fits, counted_none, counted_one}
 use Rattle.reader.proofs.levels.number.Goals.{In-loop-i}
 use Rattle.reader.proofs.levels.number.Goals as goal
 

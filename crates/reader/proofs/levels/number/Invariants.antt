@@ -1,8 +1,5 @@
-use borrow.Author.Rules.{rules}
-use mathlib.Core.Path.{◌≡◌}
-use native.Mathlib.Omega.{arith}
-use Prim.Native.Nat.{◌+◌, ◌-◌, ◌<◌, ◌≤◌}
-use Rattle.reader.proofs.Slots.{Counted, counted_fits, counted_none, counted_one}
+use Prim.Native.Nat.{◌-◌, ◌≤◌}
+use Rattle.reader.proofs.Slots.{Counted}
 use Rattle.reader.proofs.levels.number.Given as goal
 
 abbrev pub invariant-loop-i : goal.invariant-loop-i

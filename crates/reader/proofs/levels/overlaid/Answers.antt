@@ -1,9 +1,8 @@
 use borrow.Author.Rules.{rules}
 use native.Mathlib.Omega.{arith}
 use mathlib.Core.Path.{◌≡◌}
-use Prim.Native.Nat.{◌-◌, ◌≤◌}
+use Prim.Native.Nat.{◌-◌}
 use Rattle.reader.proofs.Slots.{overlaid_none, overlaid_one}
-use Rattle.reader.specs.Reading.{Overlaid}
 use Rattle.reader.proofs.levels.overlaid.Goals as goal
 
 pub loop-i-init : goal.loop-i-init

@@ -1,8 +1,4 @@
-use borrow.Author.Rules.{rules}
-use native.Mathlib.Omega.{arith}
-use mathlib.Core.Path.{◌≡◌}
 use Prim.Native.Nat.{◌-◌, ◌≤◌}
-use Rattle.reader.proofs.Slots.{overlaid_none, overlaid_one}
 use Rattle.reader.specs.Reading.{Overlaid}
 use Rattle.reader.proofs.levels.overlaid.Given as goal
 

@@ -1,4 +1,3 @@
-use borrow.Author.Rules.{rules}
 use Rattle.reader.proofs.Slots.{stray_seen}
 use Rattle.reader.proofs.levels.strays.Goals as goal
 

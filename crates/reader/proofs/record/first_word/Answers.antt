@@ -1,4 +1,3 @@
-use borrow.Author.Rules.{rules}
 use native.Mathlib.Omega.{arith}
 use Rattle.line.proofs.Levels.{bit_le}
 use Rattle.reader.proofs.record.first_word.Goals as goal

@@ -1,4 +1,3 @@
-use borrow.Author.Rules.{rules}
 use lib.Seq.{lt-length-set}
 use Rattle.reader.proofs.Records.{front_more, front_one, front_some, front_two}
 use Rattle.reader.proofs.record.put_front.Goals as goal

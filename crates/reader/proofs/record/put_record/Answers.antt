@@ -1,4 +1,3 @@
-use borrow.Author.Rules.{rules}
 use native.Mathlib.Omega.{arith}
 use Rattle.reader.proofs.Records.{Putting, entry_fits, first_fits, front_fits, front_most, front_two_most}
 use Rattle.reader.proofs.Records.{record_put, stands_middle}

@@ -1,10 +1,8 @@
-use borrow.Author.Rules.{rules}
-use mathlib.Core.Logic.{⊎_elim}
 use mathlib.Core.Path.{◌∙◌, sym}
 use native.Mathlib.Omega.{arith}
 use Prim.Native.Nat.{◌+◌, ◌<◌}
 use lib.ListN.{length}
-use Rattle.reader.proofs.Texts.{Goes, Going, goes, going_acked, going_all, going_missed, going_none, going_room}
+use Rattle.reader.proofs.Texts.{Goes, goes, going_acked, going_all, going_missed, going_none, going_room}
 use Rattle.reader.proofs.text.put_text.Goals.{In-loop-left}
 use Rattle.reader.proofs.text.put_text.Goals as goal
 use Rattle.reader.proofs.text.put_text.Goals.{then-is_acked, else-is_acked}
@@ -81,10 +79,10 @@ loop-left-preserved c =
     let t = turn (goal.at.loop-left-preserved c).In-loop-left in
     let counted = sym c.is_acked.ensures in
     elim c.if-is_acked.branch [
-      then-is_acked w ↦ rw (w.records-is, w.missing-is, w.since-is, w.acked-is)
+      | then-is_acked w ↦ rw (w.records-is, w.missing-is, w.since-is, w.acked-is)
           (going_acked c.loop-left.invariant t (counted ∙ w.if-is_acked.true) c.number-byte.ensures.0
           (room (goal.at.loop-left-preserved c).In-loop-left))
-    | else-is_acked w ↦ rw (w.records-is, w.missing-is, w.since-is, w.acked-is)
+      | else-is_acked w ↦ rw (w.records-is, w.missing-is, w.since-is, w.acked-is)
           (going_missed c.loop-left.invariant t (counted ∙ w.if-is_acked.false))
     ]
 

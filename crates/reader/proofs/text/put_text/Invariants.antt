@@ -1,10 +1,4 @@
-use borrow.Author.Rules.{rules}
-use mathlib.Core.Logic.{⊎_elim}
-use mathlib.Core.Path.{◌∙◌, sym}
-use native.Mathlib.Omega.{arith}
-use Prim.Native.Nat.{◌+◌, ◌<◌}
-use lib.ListN.{length}
-use Rattle.reader.proofs.Texts.{Goes, Going, goes, going_acked, going_all, going_missed, going_none, going_room}
+use Rattle.reader.proofs.Texts.{Going}
 use Rattle.reader.proofs.text.put_text.Given as goal
 
 abbrev pub invariant-loop-left : goal.invariant-loop-left

@@ -1,5 +1,4 @@
 use Rattle.rules.specs.Endings.{cut_of}
-use borrow.Author.Rules.{rules}
 use Rattle.slots.proofs.endings.cut.Goals as goal
 
 pub returns-in-Waiting : goal.returns-in-Waiting

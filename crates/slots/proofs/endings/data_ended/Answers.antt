@@ -1,5 +1,4 @@
 use Rattle.rules.specs.Endings.{data_ended}
-use borrow.Author.Rules.{rules}
 use Rattle.slots.proofs.endings.data_ended.Goals as goal
 
 pub returns : goal.returns

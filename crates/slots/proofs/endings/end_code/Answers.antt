@@ -1,5 +1,4 @@
 use Rattle.rules.specs.Endings.{end_code}
-use borrow.Author.Rules.{rules}
 use Rattle.slots.proofs.endings.end_code.Goals as goal
 
 pub returns-then-whole : goal.returns-then-whole

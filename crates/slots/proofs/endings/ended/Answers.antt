@@ -1,5 +1,4 @@
 use Rattle.rules.specs.Endings.{ended_of}
-use borrow.Author.Rules.{rules}
 use Rattle.slots.proofs.endings.ended.Goals as goal
 
 pub returns-then-frame : goal.returns-then-frame

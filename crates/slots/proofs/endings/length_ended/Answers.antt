@@ -1,5 +1,4 @@
 use Rattle.rules.specs.Endings.{length_ended}
-use borrow.Author.Rules.{rules}
 use Rattle.slots.proofs.endings.length_ended.Goals as goal
 
 pub returns-then-draws_bytes : goal.returns-then-draws_bytes

@@ -1,5 +1,4 @@
 use Rattle.rules.specs.Endings.{lock_after}
-use borrow.Author.Rules.{rules}
 use Rattle.slots.proofs.endings.lock_after.Goals as goal
 
 pub returns-then-whole : goal.returns-then-whole

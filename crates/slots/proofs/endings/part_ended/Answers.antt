@@ -1,5 +1,4 @@
 use Rattle.rules.specs.Endings.{part_ended}
-use borrow.Author.Rules.{rules}
 use Rattle.slots.proofs.endings.part_ended.Goals as goal
 
 pub returns-then-draws_bytes : goal.returns-then-draws_bytes

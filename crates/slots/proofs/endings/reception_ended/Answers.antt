@@ -1,5 +1,4 @@
 use Rattle.rules.specs.Endings.{reception_ended}
-use borrow.Author.Rules.{rules}
 use Rattle.slots.proofs.endings.reception_ended.Goals as goal
 
 pub returns : goal.returns

@@ -1,5 +1,4 @@
 use Rattle.rules.specs.Endings.{request_ended}
-use borrow.Author.Rules.{rules}
 use Rattle.slots.proofs.endings.request_ended.Goals as goal
 
 pub returns-then-writes : goal.returns-then-writes

@@ -1,5 +1,4 @@
 use Rattle.rules.specs.Endings.{sending_ended}
-use borrow.Author.Rules.{rules}
 use Rattle.slots.proofs.endings.sending_ended.Goals as goal
 
 pub returns : goal.returns

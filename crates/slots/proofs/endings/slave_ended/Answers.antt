@@ -1,4 +1,3 @@
-use borrow.Author.Rules.{rules}
 use Rattle.slots.proofs.endings.slave_ended.Goals as goal
 
 pub returns-in-Waiting : goal.returns-in-Waiting

@@ -1,5 +1,4 @@
 use Rattle.rules.specs.Slots.{byte_drawn}
-use borrow.Author.Rules.{rules}
 use Rattle.slots.proofs.events.byte_drawn.Goals as goal
 
 pub returns-then-wanted : goal.returns-then-wanted

@@ -1,5 +1,4 @@
 use Rattle.rules.specs.Slots.{counted}
-use borrow.Author.Rules.{rules}
 use Rattle.slots.proofs.events.count_more.Goals as goal
 
 pub returns : goal.returns

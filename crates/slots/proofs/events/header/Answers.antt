@@ -1,5 +1,4 @@
 use Rattle.rules.specs.Slots.{header_of}
-use borrow.Author.Rules.{rules}
 use Rattle.slots.proofs.events.header.Goals as goal
 
 pub returns : goal.returns

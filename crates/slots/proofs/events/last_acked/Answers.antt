@@ -1,5 +1,4 @@
 use Rattle.rules.specs.Slots.{last_acked}
-use borrow.Author.Rules.{rules}
 use Rattle.slots.proofs.events.last_acked.Goals as goal
 
 pub returns-then-frame : goal.returns-then-frame

@@ -1,5 +1,4 @@
 use Rattle.rules.specs.Slots.{length_drawn}
-use borrow.Author.Rules.{rules}
 use Rattle.slots.proofs.events.length_drawn.Goals as goal
 
 pub returns : goal.returns

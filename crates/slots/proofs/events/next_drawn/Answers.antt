@@ -1,6 +1,5 @@
 use Rattle.rules.specs.Slots.{next_drawn}
 use borrow.Author.Tests.{eq-eqb, ne_eqb}
-use borrow.Author.Rules.{rules}
 use Rattle.slots.proofs.events.next_drawn.Goals as goal
 
 pub returns-then-seen-eq0 : goal.returns-then-seen-eq0

@@ -1,5 +1,4 @@
 use Rattle.rules.specs.Slots.{on_addressed}
-use borrow.Author.Rules.{rules}
 use Rattle.slots.proofs.events.on_addressed.Goals as goal
 
 pub returns-then-frame-writes : goal.returns-then-frame-writes

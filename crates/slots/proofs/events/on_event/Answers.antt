@@ -1,5 +1,4 @@
 use Rattle.rules.specs.Slots.{on_event}
-use borrow.Author.Rules.{rules}
 use Rattle.slots.proofs.events.on_event.Goals as goal
 
 pub returns-in-Nothing : goal.returns-in-Nothing

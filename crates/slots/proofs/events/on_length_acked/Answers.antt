@@ -1,5 +1,4 @@
 use Rattle.rules.specs.Slots.{on_length_acked}
-use borrow.Author.Rules.{rules}
 use Rattle.slots.proofs.events.on_length_acked.Goals as goal
 
 pub returns-then-draws_bytes : goal.returns-then-draws_bytes

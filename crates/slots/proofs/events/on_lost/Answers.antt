@@ -1,6 +1,5 @@
 use Rattle.rules.specs.Slots.{on_lost}
 use borrow.Author.Tests.{lt-ltb, le-ltb}
-use borrow.Author.Rules.{rules}
 use Rattle.slots.proofs.events.on_lost.Goals as goal
 
 pub returns-then-regs : goal.returns-then-regs

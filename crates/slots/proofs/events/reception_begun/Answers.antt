@@ -1,5 +1,4 @@
 use Rattle.rules.specs.Slots.{reception_begun}
-use borrow.Author.Rules.{rules}
 use Rattle.slots.proofs.events.reception_begun.Goals as goal
 
 pub returns : goal.returns

@@ -1,6 +1,5 @@
 use Rattle.rules.specs.State.{own_byte}
 use borrow.Author.Tests.{eq-eqb, ne_eqb}
-use borrow.Author.Rules.{rules}
 use Rattle.slots.proofs.state.own_byte.Goals as goal
 
 pub returns-then-control-eq4 : goal.returns-then-control-eq4

@@ -3,7 +3,6 @@ use Rattle.rules.specs.State.{ready_of, status_byte}
 use mathlib.Core.Bool.{Bool, true, false, not}
 use mir.Val.{bool_byte}
 use native.Mathlib.Omega.{arith}
-use borrow.Author.Rules.{rules}
 use Rattle.slots.proofs.state.status_byte.Goals as goal
 
 rt_bit_le : (b : Bool) → bool_byte b ≤ 1

@@ -1,6 +1,5 @@
 use mathlib.Core.Path.{ap, ◌∙◌}
 use lib.ListN.{length}
-use borrow.Author.Rules.{rules}
 use Rattle.line.specs.Numbers.{rbf_bytes}
 use Rattle.circles.specs.Buffers.{stored_by}
 use Rattle.circles.specs.Circle.{Buffer, buffer}

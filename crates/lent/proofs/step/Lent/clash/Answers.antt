@@ -1,6 +1,5 @@
 use mathlib.Core.Path.{refl}
 use Rattle.rules.specs.Step.{clashes}
-use borrow.Author.Rules.{rules}
 use Rattle.lent.proofs.step.Lent.clash.Goals as goal
 
 pub returns : goal.returns

@@ -1,5 +1,4 @@
 use Rattle.rules.specs.Step.{next_drive}
-use borrow.Author.Rules.{rules}
 use Rattle.lent.proofs.step.Lent.drive.Goals as goal
 
 pub returns : goal.returns

@@ -2,7 +2,6 @@ use borrow.Author.Tests.{eq-eqb, ne_eqb}
 use mathlib.Core.Path.{◌∙◌}
 use Rattle.lent.proofs.Joins.{read_byte, read_other, read_refused}
 use Rattle.lent.specs.Both.{loan_in}
-use borrow.Author.Rules.{rules}
 use Rattle.lent.proofs.step.Lent.read.Goals as goal
 
 pub returns-then-register-eq-REG_RBF : goal.returns-then-register-eq-REG_RBF

@@ -1,4 +1,3 @@
-use borrow.Author.Rules.{rules}
 use Rattle.lent.proofs.Changed.{drawn_state}
 use Rattle.lent.proofs.step.Lent.read_rbf.Goals as goal
 

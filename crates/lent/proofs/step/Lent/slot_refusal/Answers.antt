@@ -1,6 +1,5 @@
 use mathlib.Core.Path.{refl}
 use Rattle.lent.specs.Both.{slot_refusal}
-use borrow.Author.Rules.{rules}
 use Rattle.lent.proofs.step.Lent.slot_refusal.Goals as goal
 
 pub returns-then-clash : goal.returns-then-clash

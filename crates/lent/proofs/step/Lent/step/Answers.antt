@@ -3,7 +3,6 @@ use Rattle.line.proofs.Either.{both}
 use Rattle.lent.proofs.Joins.{runs, runs_said}
 use Rattle.lent.proofs.Listening.{agreed_word, plain_word}
 use Rattle.lent.specs.Both.{loan_in}
-use borrow.Author.Rules.{rules}
 use Rattle.lent.proofs.step.Lent.step.Goals as goal
 
 pub returns-then-word-plain : goal.returns-then-word-plain

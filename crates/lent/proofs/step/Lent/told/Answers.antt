@@ -2,7 +2,6 @@ use borrow.Author.Tests.{eq-eqb, ne_eqb}
 use mathlib.Core.Path.{refl, ◌∙◌}
 use Rattle.lent.proofs.Joins.{told_read, told_read_stray, told_refused, told_write, told_write_stray}
 use Rattle.lent.specs.Both.{loan_in}
-use borrow.Author.Rules.{rules}
 use Rattle.lent.proofs.step.Lent.told.Goals as goal
 
 pub returns-then-word-eq0 : goal.returns-then-word-eq0

@@ -1,4 +1,3 @@
-use borrow.Author.Rules.{rules}
 use Rattle.lent.proofs.step.Lent.took.Goals as goal
 
 pub returns : goal.returns

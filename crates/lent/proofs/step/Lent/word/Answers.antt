@@ -2,7 +2,6 @@ use borrow.Author.Tests.{eq-eqb, ne_eqb}
 use mathlib.Core.Path.{refl, ap, ◌∙◌}
 use Rattle.lent.proofs.Joins.{step_host, step_slot}
 use Rattle.lent.specs.Both.{after_slot, loan_in}
-use borrow.Author.Rules.{rules}
 use Rattle.lent.proofs.step.Lent.word.Goals as goal
 
 pub returns-then-word-eq-KIND_SLOT : goal.returns-then-word-eq-KIND_SLOT

@@ -2,7 +2,6 @@ use borrow.Author.Tests.{eq-eqb, ne_eqb}
 use mathlib.Core.Path.{refl, ◌∙◌}
 use Rattle.lent.proofs.Joins.{write_accepted, write_refused}
 use Rattle.lent.specs.Both.{loan_in}
-use borrow.Author.Rules.{rules}
 use Rattle.lent.proofs.step.Lent.write.Goals as goal
 
 pub returns-then-number-eq0 : goal.returns-then-number-eq0

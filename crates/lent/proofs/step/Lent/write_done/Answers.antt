@@ -7,7 +7,6 @@ use Rattle.circles.specs.Circle.{Buffer}
 use Rattle.lent.proofs.Changed.{filled_state, reset_state}
 use Rattle.circles.specs.Calls.{push}
 use Rattle.circles.proofs.Places.{call_unmoved}
-use borrow.Author.Rules.{rules}
 use Rattle.lent.proofs.step.Lent.write_done.Goals as goal
 
 pub returns-then-register-eq-REG_TBF : goal.returns-then-register-eq-REG_TBF

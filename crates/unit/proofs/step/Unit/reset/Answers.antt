@@ -1,4 +1,3 @@
-use borrow.Author.Rules.{rules}
 use Rattle.circles.specs.Circle.{circle_of, items}
 use Rattle.unit.proofs.step.Unit.reset.Goals as goal
 
