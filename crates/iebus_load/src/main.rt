@@ -18,7 +18,8 @@ mod texts;
 use crate::output::{Message, is_svg, told};
 use crate::texts::put_loaded;
 use meter::load;
-use pieces::{NO_NUMBER, argument, argument_count, number, read_full};
+use pieces::{NO_NUMBER, argument, number, read_full};
+use std::env::{Env, FillError};
 use words::put_words;
 
 // At most so many slots are read.
@@ -140,6 +141,20 @@ fn show(rt: HostRuntime, plot: bool, w: u32) {
 
 fn explain(rt: &impl Eprint) {
     let _ = rt.eprintln("usage: iebus_load WINDOW [svg] <SLOTS");
+}
+
+fn has_argument(rt: &impl Env, place: usize) -> bool {
+    !matches!(rt.arg(place, &mut []), Err(FillError::NotPresent))
+}
+
+// How many arguments there are, with the program's own name.
+fn argument_count(rt: &impl Env) -> usize {
+    for place in 0..usize::MAX {
+        if !has_argument(rt, place) {
+            return place;
+        }
+    }
+    usize::MAX
 }
 
 fn main(rt: HostRuntime) {

@@ -2,7 +2,7 @@
 ghost use Rattle.std.specs.Prelude.{◌≤◌, length, take};
 ghost use Rattle.std.specs.Io.KnownBytes.{Consumes};
 
-use std::env::{Env, FillError};
+use std::env::Env;
 use std::io::Read;
 
 // One read: how many bytes it put at the front of the list, none where the input ends or the read fails.
@@ -35,19 +35,8 @@ pub fn read_full<R: Read>(input: &mut R, bytes: &mut [u8]) -> usize
 pub fn argument(rt: &impl Env, place: usize, bytes: &mut [u8]) -> usize
     ensures { result ≤ length bytes.new }
 {
-    rt.arg(place, bytes).unwrap_or(0)
-}
-
-fn has_argument(rt: &impl Env, place: usize) -> bool {
-    !matches!(rt.arg(place, &mut []), Err(FillError::NotPresent))
-}
-
-// How many arguments there are, with the program's own name.
-pub fn argument_count(rt: &impl Env) -> usize {
-    for place in 0..usize::MAX {
-        if !has_argument(rt, place) {
-            return place;
-        }
+    match rt.arg(place, bytes) {
+        Ok(count) => count,
+        Err(_) => 0,
     }
-    usize::MAX
 }

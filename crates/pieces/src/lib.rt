@@ -9,7 +9,7 @@ ghost use Rattle.pieces.specs.Pieces.{Put};
 
 mod input;
 
-pub use input::{argument, argument_count, read_full};
+pub use input::{argument, read_full};
 
 // Numbers go up to 65,535; this stands for none.
 pub const NO_NUMBER: u32 = 0x1_0000;
