@@ -1,7 +1,6 @@
 // The contest over "a lent list of records, each a broadcast bit and an address". Nothing is decided here: one function
 // reads a record and hands its two numbers on, and the others pass the list to it and what was gathered to the core.
-// Functions over a lent slice of structs are proved by a walk, so they stay thin (docs/DECISIONS.md, "Forms"). No
-// public function has a `requires`, and nothing is assumed.
+// No public function has a `requires`, and nothing is assumed.
 #![tactic(auto)]
 
 ghost use Rattle.std.specs.Prelude.{◌≡◌, ◌<◌, min, length};
