@@ -157,7 +157,7 @@ function wrong_said(e,    text) {
     if (text ~ /^refused, as it must be \(/)
         return kinds[e] == "code" ? "a proof that no longer fits: " substr(text, 1, 300) : "open"
     sub(/^refused, as it must be(: )?/, "", text)
-    if (kinds[e] == "code") return is_named(e, place(e, text)) ? "" : "open"
+    if (kinds[e] == "code") return text !~ misfit && is_named(e, place(e, text)) ? "" : "open"
     if (in_own_file(e, text) || text ~ /was not admitted/) return "open"
     return index(text, ": error: `" named[e] "`: ") ? "" : "open"
 }

@@ -1,5 +1,0 @@
-use Rattle.unit_exports.proofs.iebus_unit_run.Goals as goal
-
-pub returns : goal.returns
-returns c =
-    c.run.ensures
