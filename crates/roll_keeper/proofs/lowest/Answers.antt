@@ -6,7 +6,6 @@ use Rattle.rolls.specs.Kept.{count_in, requests_in}
 use Rattle.rolls.proofs.Bytes.{requests_at, requests_length}
 use Rattle.roll_keeper.proofs.Loops.{lowest_all, lowest_falls, lowest_one, lowest_stays}
 use Rattle.roll_keeper.proofs.lowest.Goals as goal
-use Rattle.roll_keeper.proofs.lowest.Goals.{then-number-best, else-number-best}
 
 pub loop-i-init : goal.loop-i-init
 loop-i-init c =
@@ -23,10 +22,7 @@ loop-i-preserved c =
     = omega (arith, c.count-end.ensures, c.loop-i-test.true) in
     let inside : c.loop-i.i < length (requests_in c.args.roll.now) = omega (arith, few, requests_length c.args.roll.now) in
     let at = c.request-number.ensures ∙ sym (requests_at c.args.roll.now c.loop-i.i few) in
-    elim c.if-number-best.branch [
-      | then-number-best w ↦ rw w.best-is (lowest_falls c.loop-i.invariant inside at w.if-number-best.true)
-      | else-number-best w ↦ rw w.best-is (lowest_stays c.loop-i.invariant inside at w.if-number-best.false)
-    ]
+    grind (arith, lowest_falls c.loop-i.invariant inside at, lowest_stays c.loop-i.invariant inside at)
 
 pub returns : goal.returns
 returns c =
