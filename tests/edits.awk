@@ -189,12 +189,26 @@ function in_own_file(e, line,    file) {
     return index(files[edits[e]] " ", " " file " ") > 0
 }
 
+# whether a line says that a declaration waits for one that was refused: it stands in the line's list, or others wait for
+# it
+function waits(line, name,    parts, count, i) {
+    if (index(line, "depends on `" name "`, ") || index(line, "depend on `" name "`, ")) return 1
+    if (!sub(/.*(was|were) not checked: /, "", line)) return 0
+    gsub(/ \(via [^)]*\)/, "", line)
+    sub(/ and [0-9]+ more.*/, "", line)
+    count = split(line, parts, ", ")
+    for (i = 1; i <= count; i++)
+        if (parts[i] == name) return 1
+    return 0
+}
+
 function read_error(e, line,    follows, name, broken) {
     broken = in_own_file(e, line)
-    sub(/^[^`]*: error: /, "", line)
-    follows = line ~ /was not admitted/
+    sub(/^[^`]*[0-9]: error: /, "", line)
+    follows = line ~ /was not admitted|(was|were) not checked: /
     if (broken && !follows) malformed = line
     if (index(line, "`" named[e] "`: ") == 1 && !(follows && named[e] ~ /[-_]cases$/)) own = line
+    if (follows && named[e] !~ /[-_]cases$/ && waits(line, named[e])) own = line
     if (follows) return 0
     name = line ~ /^`/ ? substr(line, 1, index(line, "`: ")) : ""
     if (first == "") { first = line; first_name = name }
