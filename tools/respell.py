@@ -1,7 +1,7 @@
 #!/usr/bin/env python3
 """Spells this repository's own definitions and lemmas as today's library does: words in snake case.
 
-usage: respell.py             in the repository, once, after /opt/rattle/port/port.py: every name of respelled.tsv, beside
+usage: respell.py             in the repository, once, after the library's port.py: every name of respelled.tsv, beside
                               this file, in crates/*/{specs,proofs,src}
        respell.py --table     writes respelled.tsv from what the crates declare
 
