@@ -54,7 +54,7 @@ record OneBit (field : Field) (count : ℕ) (next : Place) : Type 0 where
   contested : contested_of field count ≡ true
   own : (f : Frame) → own_bit f field count ≡ true
   quiet : (f : Frame) (bit : Bool) (v : View) → (at_field f field count bit v).event ≡ Nothing
-  place : (f : Frame) (bit : Bool) (v : View) → (at_field f field count bit v).frame.spot.place ≡ next
+  place : (f : Frame) (bit : Bool) (v : View) → (at_field f field count bit v).frame.place ≡ next
   leads : (f : Frame) (bit : Bool) (v : View) → (at_field f field count bit v).frame.leads ≡ f.leads
 
 at-broadcast : OneBit Broadcast 0 (In Master 0)
@@ -95,7 +95,7 @@ unbeaten_stays true false e = refl
 unbeaten_stays false t e = refl
 
 record Passes (next : Place) (lead : Bool) (m : Moved) : Type 0 where
-  place : m.frame.spot.place ≡ next
+  place : m.frame.place ≡ next
   leads : m.frame.leads ≡ lead
   event : (m.event ≡ Lost) ⊎ (m.event ≡ Nothing)
 
@@ -125,7 +125,7 @@ module _ {field : Field} {count : ℕ} {next : Place} (x : OneBit field count ne
         event = inr (x.quiet f bit v);
       }
 
-  level_passes : f.spot.place ≡ In field count
+  level_passes : f.place ≡ In field count
       → Passes next (f.leads && not (beaten (drive_of f v) bit)) (level_of f bit v)
   unfolding level_of in_field
   level_passes at =
@@ -154,13 +154,13 @@ on-event e c f seen (inl q) =
     (λ w. record { frame = refl; own = refl; bit = refl }) (λ w. record { frame = refl; own = refl; bit = refl })))
 
 record Onward (next : Place) (lead : Bool) (c d : Core) : Type 0 where
-  place : d.frame.spot.place ≡ next
+  place : d.frame.place ≡ next
   leads : d.frame.leads ≡ lead
   own : d.regs.own ≡ c.regs.own
   bit : d.regs.bit ≡ c.regs.bit
 
 on-level : {field : Field} {count : ℕ} {next : Place} → OneBit field count next → (c : Core) (b : Bool) (seen : Seen)
-    → c.frame.spot.place ≡ In field count
+    → c.frame.place ≡ In field count
     → Onward next (c.frame.leads && not (beaten (drive_of c.frame (view_of c.regs seen.clear)) b)) c
     (on_level c b seen).core
 unfolding on_level
@@ -170,7 +170,7 @@ on-level x c b seen at =
     let p = level_passes x c.frame b v at in
     let k = on-event m.event (core·idle false c) m.frame seen p.event in
     record {
-      place = ap (λ (f : Frame). f.spot.place) k.frame ∙ p.place;
+      place = ap (λ (f : Frame). f.place) k.frame ∙ p.place;
       leads = ap (λ (f : Frame). f.leads) k.frame ∙ p.leads;
       own = k.own;
       bit = k.bit;
@@ -212,7 +212,7 @@ number s = number_of (contender_of s)
 
 -- with so many slots of the contest to come
 pub record Stands (n : ℕ) (s : State) : Type 0 where
-  pub place : s.core.frame.spot.place ≡ place_at n
+  pub place : s.core.frame.place ≡ place_at n
   -- an address over FFFH is of no account where it is not driven
   pub own_lt : leads s ≡ true → s.core.regs.own < 4096
 
@@ -238,12 +238,12 @@ bit_level (suc (suc y)) h = absurd (omega arith)
 abbrev drives : State → Bool
 drives s = drive_of s.core.frame (view_of s.core.regs (is_empty s.rbf))
 
-drive-in : (s : State) (field : Field) (count : ℕ) → s.core.frame.spot.place ≡ In field count
+drive-in : (s : State) (field : Field) (count : ℕ) → s.core.frame.place ≡ In field count
     → next_drive s ≡ bit_of (drives s)
 unfolding next_drive core_drive
 drive-in s field count at = ap (λ (p : Place). drive_at p s.core (is_empty s.rbf)) at
 
-drives_in : (s : State) (field : Field) (count : ℕ) → s.core.frame.spot.place ≡ In field count
+drives_in : (s : State) (field : Field) (count : ℕ) → s.core.frame.place ≡ In field count
     → drives s ≡ drive_in s.core.frame field count (view_of s.core.regs (is_empty s.rbf))
 unfolding drive_of
 drives_in s field count at =
@@ -254,7 +254,7 @@ abbrev Drives : ℕ → State → Type 0
 Drives n s = bit_of (drives s) ≡ pick (leads s) (parity.level_of n (number s)) 1
 
 module _ (s : State) (own_lt : leads s ≡ true → s.core.regs.own < 4096) where
-  drive_bit : s.core.frame.spot.place ≡ In Broadcast 0 → Drives 12 s
+  drive_bit : s.core.frame.place ≡ In Broadcast 0 → Drives 12 s
   unfolding drive_in number_of parity.level_of
   drive_bit at = ap bit_of (drives_in s Broadcast 0 at) ∙ go (leads s) s.core.regs.bit own_lt
     where
@@ -264,7 +264,7 @@ module _ (s : State) (own_lt : leads s ≡ true → s.core.regs.own < 4096) wher
       go true false h = omega (arith, h refl)
       go false b h = refl
 
-  drive_address : (n : ℕ) → n < 12 → s.core.frame.spot.place ≡ In Master (11 - n) → Drives n s
+  drive_address : (n : ℕ) → n < 12 → s.core.frame.place ≡ In Master (11 - n) → Drives n s
   unfolding drive_in sent_of number_of
   drive_address n lt at = ap bit_of (drives_in s Master (11 - n) at) ∙ go (leads s) own_lt
     where
@@ -285,7 +285,7 @@ record At (n : ℕ) (s : State) : Type 0 where
   field : Field
   count : ℕ
   one : OneBit field count (place_at n)
-  at : s.core.frame.spot.place ≡ In field count
+  at : s.core.frame.place ≡ In field count
   level : Drives n s
 
 bit_at : (s : State) → Stands 13 s → At 12 s
@@ -350,7 +350,7 @@ module _ (n : ℕ) (s : State) (h : n ≤ 12) (t : Stands (suc n) s) where
         same = ap (λ (c : Core). record { bit = bit_of c.regs.bit; address = c.regs.own }) e
             ∙ ap₂ (λ (b : Bool) (own : ℕ). record { bit = bit_of b; address = own }) o.bit o.own;
         stands = record {
-          place = ap (λ (c : Core). c.frame.spot.place) e ∙ o.place;
+          place = ap (λ (c : Core). c.frame.place) e ∙ o.place;
           own_lt = λ l.
               omega (
                 arith,

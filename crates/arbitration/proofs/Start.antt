@@ -71,13 +71,13 @@ slave_keeps (In Data n) c whole = data_keeps c whole
 
 cut_keeps : (c : Core) → Keeps c (cut_of c)
 unfolding cut_of left_of ended_of
-cut_keeps c = go c.frame.spot.place
+cut_keeps c = go c.frame.place
   where
     go : (p : Place) → Keeps c (cut_at p c)
     go Waiting = refl
     go (In field n) =
         pick_ind (Keeps c) c.frame.leads _ _ (λ e. request_keeps c false)
-        (λ e. slave_keeps c.frame.spot.place c false)
+        (λ e. slave_keeps c.frame.place c false)
 
 -- the frame that a start slot begins
 start_core : (s : State) → (step_of s drive_start).core ≡ begun (cut_of s.core).core (is_empty s.rbf)
@@ -93,7 +93,7 @@ pub start_stands : (s : State) → (leads (step_of s drive_start) ≡ true → s
 unfolding begun begun_of
 start_stands s h =
     record {
-      place = ap (λ (c : Core). c.frame.spot.place) (start_core s);
+      place = ap (λ (c : Core). c.frame.place) (start_core s);
       own_lt = λ l. omega (arith, h l, ap (λ (c : Contender). c.address) (start_same s));
     }
 

@@ -75,9 +75,7 @@ fn drive_in(frame: Frame, field: Field, n: u8, view: View) -> bool
 pub fn drive(frame: Frame, view: View) -> bool
     ensures { result ≡ drive_of frame view }
 {
-    let spot = frame.spot;
-    let place = spot.place;
-    match place {
+    match frame.place {
         Place::Waiting => true,
         Place::In(field, n) => drive_in(frame, field, n, view),
     }

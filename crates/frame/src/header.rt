@@ -8,17 +8,14 @@ ghost use Rattle.place.specs.Step.{header_ack, heard_of, master_of, slave_judged
 use crate::judging::{accepted, addressed, judge_control, stranger};
 use line::parity::parity_holds;
 use moves::{done, next, shifted, writes};
-use place::{Event, Field, Frame, Moved, Place, Spot, View};
+use place::{Event, Field, Frame, Moved, Place, View};
 
 // A field begins.
 #[tactic(auto, unfolding(place::specs::Frame::to_field))]
 pub(crate) fn to(mut frame: Frame, field: Field) -> Frame
     ensures { result ≡ to_field frame field }
 {
-    let spot = Spot {
-        place: Place::In(field, 0),
-    };
-    frame.spot = spot;
+    frame.place = Place::In(field, 0);
     frame.shift = 0;
     frame
 }

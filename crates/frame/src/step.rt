@@ -107,9 +107,7 @@ fn in_field(frame: Frame, field: Field, n: u8, bit: bool, view: View) -> Moved
 pub fn level(frame: Frame, bit: bool, view: View) -> Moved
     ensures { result ≡ level_of frame bit view }
 {
-    let spot = frame.spot;
-    let place = spot.place;
-    match place {
+    match frame.place {
         Place::Waiting => Moved {
             frame,
             event: Event::Nothing,

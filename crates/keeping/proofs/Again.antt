@@ -56,7 +56,7 @@ frame_again : (f : Frame) (idle : ℕ) → FrameFits f → frame_in (frame_bytes
 unfolding frame_in frame_bytes
 frame_again f idle h =
     simp (
-      place_again f.spot.place,
+      place_again f.place,
       pair_again f.shift h.shift,
       pair_again f.master h.master,
       pair_again f.slave h.slave,

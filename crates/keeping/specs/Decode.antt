@@ -63,7 +63,7 @@ place_of number n =
 unfoldable pub frame_in : List ℕ → Frame
 frame_in l =
     record {
-      spot = record { place = place_of (byte_in l 0) (byte_in l 1) };
+      place = place_of (byte_in l 0) (byte_in l 1);
       shift = pair_in l 2;
       broadcast = flag_in l 4;
       master = pair_in l 5;

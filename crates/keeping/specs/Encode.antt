@@ -43,7 +43,7 @@ place_count (In field n) = n
 
 unfoldable pub frame_bytes : Frame → List ℕ
 frame_bytes f =
-    place_number f.spot.place ∷ place_count f.spot.place ∷ low f.shift ∷ high f.shift
+    place_number f.place ∷ place_count f.place ∷ low f.shift ∷ high f.shift
     ∷ bit_of f.broadcast ∷ low f.master ∷ high f.master ∷ bit_of f.sound ∷ low f.slave ∷ high f.slave
     ∷ f.control ∷ low f.length ∷ high f.length ∷ f.attempts ∷ low f.acked ∷ high f.acked
     ∷ bit_of f.ack ∷ bit_of f.leads ∷ bit_of f.sends ∷ f.byte ∷ f.limit ∷ []

@@ -7,7 +7,7 @@ ghost use Rattle.keeping.specs.Encode.{register_bytes};
 ghost use Rattle.keeping.specs.Layout.{frame_end, registers_end};
 
 use crate::layout::{FRAME_BYTES, REGISTERS_END};
-use place::{Field, Frame, Place, Spot};
+use place::{Field, Frame, Place};
 use rules::state::Registers;
 
 // A number of 16 bits takes two bytes, the lower first.
@@ -154,8 +154,7 @@ fn place_of(number: u8, n: u8) -> Place
 pub(crate) fn frame_bytes(f: Frame, idle: bool) -> [u8; FRAME_BYTES]
     ensures { (result ≡ frame_bytes f ++ bit_of idle ∷ []) × FrameFits f }
 {
-    let spot = f.spot;
-    let place = spot.place;
+    let place = f.place;
     [
         place_number(place),
         place_count(place),
@@ -189,7 +188,7 @@ pub(crate) fn frame_from(b: &[u8]) -> Frame
 {
     let place = place_of(b[0], b[1]);
     Frame {
-        spot: Spot { place },
+        place,
         shift: pair(b[2], b[3]),
         broadcast: flag(b[4]),
         master: pair(b[5], b[6]),

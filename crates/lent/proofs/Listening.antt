@@ -110,9 +110,9 @@ module _ (c : Core) (clear : Bool) where
   -- "level 1 while the unit drives 0" does not hold of it
   not_low : plain_of c.frame ≡ true → eqb (core_drive c clear) drive_low ≡ false
   unfolding core_drive plain_of drive_of
-  not_low e = go c.frame.spot.place refl e
+  not_low e = go c.frame.place refl e
     where
-      go : (p : Place) → c.frame.spot.place ≡ p → plain_at p c.frame ≡ true
+      go : (p : Place) → c.frame.place ≡ p → plain_at p c.frame ≡ true
           → eqb (drive_at p c clear) drive_low ≡ false
       go Waiting at e = start_or_released (c.idle && takes_part c.regs clear)
       go (In field n) at e =
@@ -123,9 +123,9 @@ module _ (c : Core) (clear : Bool) where
 
   released_after : (bit : Bool) → plain_of c.frame ≡ true → core_drive (plain_core c bit) clear ≡ drive_released
   unfolding core_drive plain_of listened_of drive_of shifted_of next_of
-  released_after bit e = go c.frame.spot.place refl e
+  released_after bit e = go c.frame.place refl e
     where
-      go : (p : Place) → c.frame.spot.place ≡ p → plain_at p c.frame ≡ true
+      go : (p : Place) → c.frame.place ≡ p → plain_at p c.frame ≡ true
           → core_drive (plain_core c bit) clear ≡ drive_released
       go Waiting at e = rw at refl
       go (In field n) at e =
@@ -139,10 +139,10 @@ acts_plainly : (c : Core) (bit : Bool) (seen : Seen) → plain_of c.frame ≡ tr
     → on_level c bit seen ≡ acted Nothing (plain_core c bit)
 unfolding on_level on_event level_of plain_of listened_of
 acts_plainly c bit seen e =
-    rw (level_at c.frame.spot.place c.frame bit (view_of c.regs seen.clear) e) refl
+    rw (level_at c.frame.place c.frame bit (view_of c.regs seen.clear) e) refl
 
 -- a bit of a field is shifted in by whoever drives it and finds it on the line
-agrees_at : (p : Place) (f : Frame) (bit : Bool) (v : View) → f.spot.place ≡ p → amid_at p ≡ true
+agrees_at : (p : Place) (f : Frame) (bit : Bool) (v : View) → f.place ≡ p → amid_at p ≡ true
     → drive_of f v ≡ bit → at_place f p bit v ≡ moved Quiet (listened_at p f bit)
 unfolding in_field clash_of
 agrees_at Waiting f bit v at e d = absurd (subst T (sym e) tt)
@@ -158,7 +158,7 @@ agrees_at (In field n) f bit v at e d =
 driven_as : (c : Core) (clear bit : Bool) → amid_of c.frame ≡ true → core_drive c clear ≡ bit_of bit
     → drive_of c.frame (view_of c.regs clear) ≡ bit
 unfolding core_drive amid_of
-driven_as c clear bit e d = go c.frame.spot.place refl e d
+driven_as c clear bit e d = go c.frame.place refl e d
   where
     alike : (a b : Bool) → bit_of a ≡ bit_of b → a ≡ b
     alike true true h = refl
@@ -166,7 +166,7 @@ driven_as c clear bit e d = go c.frame.spot.place refl e d
     alike true false h = absurd (subst T (ap (λ (k : ℕ). eqb k 1) h) tt)
     alike false true h = absurd (subst T (ap (λ (k : ℕ). eqb k 0) h) tt)
 
-    go : (p : Place) → c.frame.spot.place ≡ p → amid_at p ≡ true → drive_at p c clear ≡ bit_of bit
+    go : (p : Place) → c.frame.place ≡ p → amid_at p ≡ true → drive_at p c clear ≡ bit_of bit
         → drive_of c.frame (view_of c.regs clear) ≡ bit
     go Waiting at e d = absurd (subst T (sym e) tt)
     go (In field n) at e d = alike _ bit d
@@ -175,7 +175,7 @@ acts_agreeing : (c : Core) (bit : Bool) (seen : Seen) → amid_of c.frame ≡ tr
     → core_drive c seen.clear ≡ bit_of bit → on_level c bit seen ≡ acted Nothing (plain_core c bit)
 unfolding on_level on_event level_of listened_of amid_of
 acts_agreeing c bit seen e d =
-    rw (agrees_at c.frame.spot.place c.frame bit (view_of c.regs seen.clear) refl e
+    rw (agrees_at c.frame.place c.frame bit (view_of c.regs seen.clear) refl e
     (driven_as c seen.clear bit e d)) refl
 
 -- ---- the word

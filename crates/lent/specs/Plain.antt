@@ -34,7 +34,7 @@ plain_at Waiting f = true
 plain_at (In field n) f = not f.leads && not f.sends && inside_of field n
 
 unfoldable pub plain_of : Frame → Bool
-plain_of f = plain_at f.spot.place f
+plain_of f = plain_at f.place f
 
 -- the next level is a bit of a field, whoever sends it
 abbrev pub amid_at : Place → Bool
@@ -42,7 +42,7 @@ amid_at Waiting = false
 amid_at (In field n) = inside_of field n
 
 unfoldable pub amid_of : Frame → Bool
-amid_of f = amid_at f.spot.place
+amid_of f = amid_at f.place
 
 abbrev pub listened_at : Place → Frame → Bool → Frame
 listened_at Waiting f bit = f
@@ -50,7 +50,7 @@ listened_at (In field n) f bit = shifted_of f field n bit
 
 -- the frame after such a level
 unfoldable pub listened_of : Frame → Bool → Frame
-listened_of f bit = listened_at f.spot.place f bit
+listened_of f bit = listened_at f.place f bit
 
 abbrev pub plain_core : Core → Bool → Core
 plain_core c bit = c ▹ core·idle false ▹ core·frame (listened_of c.frame bit)

@@ -30,9 +30,7 @@ fn inside(field: Field, n: u8) -> bool
 pub(crate) fn plain(frame: Frame) -> bool
     ensures { result ≡ plain_of frame }
 {
-    let spot = frame.spot;
-    let place = spot.place;
-    match place {
+    match frame.place {
         Place::Waiting => true,
         Place::In(field, n) => !frame.leads & !frame.sends & inside(field, n),
     }
@@ -43,9 +41,7 @@ pub(crate) fn plain(frame: Frame) -> bool
 fn amid(frame: Frame) -> bool
     ensures { result ≡ amid_of frame }
 {
-    let spot = frame.spot;
-    let place = spot.place;
-    match place {
+    match frame.place {
         Place::Waiting => false,
         Place::In(field, n) => inside(field, n),
     }
@@ -55,9 +51,7 @@ fn amid(frame: Frame) -> bool
 fn listened(frame: Frame, bit: bool) -> Frame
     ensures { result ≡ listened_of frame bit }
 {
-    let spot = frame.spot;
-    let place = spot.place;
-    match place {
+    match frame.place {
         Place::Waiting => frame,
         Place::In(field, n) => shifted(frame, field, n, bit),
     }

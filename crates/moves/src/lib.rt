@@ -4,11 +4,11 @@
 #![tactic(auto)]
 
 ghost use Rattle.std.specs.Prelude.{◌≡◌};
-ghost use Rattle.place.specs.Frame.{done_of, length_of, next_of, no_frame, nowhere, shift_of, shifted_of, with_length};
+ghost use Rattle.place.specs.Frame.{done_of, length_of, next_of, no_frame, shift_of, shifted_of, with_length};
 ghost use Rattle.place.specs.Slaves.{writes_of};
 
 use line::numbers::LENGTH_OF_ZERO;
-use place::{Field, Frame, Place, Spot};
+use place::{Field, Frame, Place};
 
 // A write control: AH, BH, EH or FH.
 #[tactic(auto, unfolding(place::specs::Slaves::writes_of))]
@@ -37,21 +37,12 @@ fn shift_in(bits: u16, bit: bool) -> u16
     bits % 2048 * 2 + bit as u16
 }
 
-fn nowhere() -> Spot
-    ensures { result ≡ nowhere }
-{
-    Spot {
-        place: Place::Waiting,
-    }
-}
-
 // No frame: waiting for a start.
 pub fn none() -> Frame
     ensures { result ≡ no_frame }
 {
-    let spot = nowhere();
     Frame {
-        spot,
+        place: Place::Waiting,
         shift: 0,
         broadcast: false,
         master: 0,
@@ -74,8 +65,7 @@ pub fn none() -> Frame
 pub fn done(mut frame: Frame) -> Frame
     ensures { result ≡ done_of frame }
 {
-    let waiting = nowhere();
-    frame.spot = waiting;
+    frame.place = Place::Waiting;
     frame
 }
 
@@ -84,10 +74,7 @@ pub fn done(mut frame: Frame) -> Frame
 pub fn next(mut frame: Frame, field: Field, n: u8) -> Frame
     ensures { result ≡ next_of frame field n }
 {
-    let spot = Spot {
-        place: Place::In(field, n % 16 + 1),
-    };
-    frame.spot = spot;
+    frame.place = Place::In(field, n % 16 + 1);
     frame
 }
 

@@ -44,9 +44,7 @@ pub fn core_drive(core: Core, clear: bool) -> u8
 {
     let frame = core.frame;
     let regs = core.regs;
-    let spot = frame.spot;
-    let place = spot.place;
-    match place {
+    match frame.place {
         Place::Waiting => {
             if core.idle & takes_part(regs, clear) {
                 return DRIVE_START;

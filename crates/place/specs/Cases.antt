@@ -82,7 +82,7 @@ goes_on (In field count) n = suc n
 unfoldable pub slots_taken : Frame → List ℕ → ℕ
 slots_taken f [] = 0
 slots_taken f (level ∷ levels) =
-    goes_on f.spot.place (slots_taken (level_of f (eqb level 1) receiver).frame levels)
+    goes_on f.place (slots_taken (level_of f (eqb level 1) receiver).frame levels)
 
 -- "length 00H is 256, FFH is 255"; "a frame of 16 attempts has 205 slots, of 32 has 365", the start slot among them
 unfoldable pub frame_cases : List Case
@@ -178,7 +178,7 @@ acked_in v f (suc n) = bit_of (drive_of (frame_after v f (field 4 n)) v) ∷ ack
 
 unfoldable pub stayed_in : View → Frame → ℕ → List ℕ
 stayed_in v f zero = []
-stayed_in v f (suc n) = goes_on (frame_after v f (field 4 n)).spot.place 0 ∷ stayed_in v f n
+stayed_in v f (suc n) = goes_on (frame_after v f (field 4 n)).place 0 ∷ stayed_in v f n
 
 unfoldable pub slave_cases : List Case
 slave_cases =

@@ -34,4 +34,4 @@ drive_at f Waiting v = true
 drive_at f (In field n) v = drive_in f field n v
 
 unfoldable pub drive_of : Frame → View → Bool
-drive_of f v = drive_at f f.spot.place v
+drive_of f v = drive_at f f.place v

@@ -2,19 +2,11 @@
 use Rattle.std.specs.Prelude.{ℕ, ◌+◌, ◌*◌, ◌%◌, Bool, false, eqb}
 use Rattle.line.specs.Choice.{pick, bit_of, ◌▹◌}
 use Rattle.line.specs.Numbers.{attempts_mode0, attempts_mode1, length_of_zero}
-use Rattle.place.specs.Set.{frame·spot, frame·shift, frame·leads, frame·limit, frame·byte, frame·length}
+use Rattle.place.specs.Set.{frame·place, frame·shift, frame·leads, frame·limit, frame·byte, frame·length}
 use Rattle.place.specs.declared.Field.{Field}
 use Rattle.place.specs.declared.Field.TheVariants.{Broadcast, Master, Slave, Control, Length, Data}
 use Rattle.place.specs.declared.Frame.{Frame}
 use Rattle.place.specs.declared.Place.TheVariants.{Waiting, In}
-use Rattle.place.specs.declared.Spot.{Spot}
-
--- "A unit's place in a frame is a field with its count, or waiting for a start"
-abbrev pub spot_at : Field → ℕ → Spot
-spot_at field n = record { place = In field n }
-
-abbrev pub nowhere : Spot
-nowhere = record { place = Waiting }
 
 -- "12 master address, P, 12 slave address, P, A, 4 control, P, A, 8 length, P, A, then 8 data, P, A": the bits of a
 -- field
@@ -42,7 +34,7 @@ shift_of bits bit = bits % 2048 * 2 + bit_of bit
 abbrev pub no_frame : Frame
 no_frame =
     record {
-      spot = nowhere;
+      place = Waiting;
       shift = 0;
       broadcast = false;
       master = 0;
@@ -61,19 +53,19 @@ no_frame =
 
 -- "A start slot always begins a frame." "The mode counts as it was at the frame's start slot."
 unfoldable pub begun_of : Bool → Bool → Frame
-begun_of leads long = no_frame ▹ frame·spot (spot_at Broadcast 0) ▹ frame·leads leads ▹ frame·limit (limit_of long)
+begun_of leads long = no_frame ▹ frame·place (In Broadcast 0) ▹ frame·leads leads ▹ frame·limit (limit_of long)
 
 -- a field begins
 unfoldable pub to_field : Frame → Field → Frame
-to_field f field = f ▹ frame·spot (spot_at field 0) ▹ frame·shift 0
+to_field f field = f ▹ frame·place (In field 0) ▹ frame·shift 0
 
 -- "Once a unit has done its part it drives 1 and takes no notice of levels until start or idle": it waits for a start
 unfoldable pub done_of : Frame → Frame
-done_of f = f ▹ frame·spot nowhere
+done_of f = f ▹ frame·place Waiting
 
 -- the next slot of the same field
 unfoldable pub next_of : Frame → Field → ℕ → Frame
-next_of f field n = f ▹ frame·spot (spot_at field (n % 16 + 1))
+next_of f field n = f ▹ frame·place (In field (n % 16 + 1))
 
 -- a bit of a field is taken in
 unfoldable pub shifted_of : Frame → Field → ℕ → Bool → Frame

@@ -4,14 +4,10 @@ use Rattle.place.specs.declared.Event.{Event}
 use Rattle.place.specs.declared.Frame.{Frame}
 use Rattle.place.specs.declared.Moved.{Moved}
 use Rattle.place.specs.declared.Place.{Place}
-use Rattle.place.specs.declared.Spot.{Spot}
 
-abbrev pub spot·place : Place → Spot → Spot
-spot·place x s = record { place = x }
-
-abbrev pub frame·spot : Spot → Frame → Frame
-frame·spot x s = record {
-  spot = x;
+abbrev pub frame·place : Place → Frame → Frame
+frame·place x s = record {
+  place = x;
   shift = s.shift;
   broadcast = s.broadcast;
   master = s.master;
@@ -31,7 +27,7 @@ frame·spot x s = record {
 
 abbrev pub frame·shift : ℕ → Frame → Frame
 frame·shift x s = record {
-  spot = s.spot;
+  place = s.place;
   shift = x;
   broadcast = s.broadcast;
   master = s.master;
@@ -51,7 +47,7 @@ frame·shift x s = record {
 
 abbrev pub frame·broadcast : Bool → Frame → Frame
 frame·broadcast x s = record {
-  spot = s.spot;
+  place = s.place;
   shift = s.shift;
   broadcast = x;
   master = s.master;
@@ -71,7 +67,7 @@ frame·broadcast x s = record {
 
 abbrev pub frame·master : ℕ → Frame → Frame
 frame·master x s = record {
-  spot = s.spot;
+  place = s.place;
   shift = s.shift;
   broadcast = s.broadcast;
   master = x;
@@ -91,7 +87,7 @@ frame·master x s = record {
 
 abbrev pub frame·sound : Bool → Frame → Frame
 frame·sound x s = record {
-  spot = s.spot;
+  place = s.place;
   shift = s.shift;
   broadcast = s.broadcast;
   master = s.master;
@@ -111,7 +107,7 @@ frame·sound x s = record {
 
 abbrev pub frame·slave : ℕ → Frame → Frame
 frame·slave x s = record {
-  spot = s.spot;
+  place = s.place;
   shift = s.shift;
   broadcast = s.broadcast;
   master = s.master;
@@ -132,7 +128,7 @@ frame·slave x s = record {
 
 abbrev pub frame·control : ℕ → Frame → Frame
 frame·control x s = record {
-  spot = s.spot;
+  place = s.place;
   shift = s.shift;
   broadcast = s.broadcast;
   master = s.master;
@@ -153,7 +149,7 @@ frame·control x s = record {
 
 abbrev pub frame·length : ℕ → Frame → Frame
 frame·length x s = record {
-  spot = s.spot;
+  place = s.place;
   shift = s.shift;
   broadcast = s.broadcast;
   master = s.master;
@@ -174,7 +170,7 @@ frame·length x s = record {
 
 abbrev pub frame·attempts : ℕ → Frame → Frame
 frame·attempts x s = record {
-  spot = s.spot;
+  place = s.place;
   shift = s.shift;
   broadcast = s.broadcast;
   master = s.master;
@@ -195,7 +191,7 @@ frame·attempts x s = record {
 
 abbrev pub frame·acked : ℕ → Frame → Frame
 frame·acked x s = record {
-  spot = s.spot;
+  place = s.place;
   shift = s.shift;
   broadcast = s.broadcast;
   master = s.master;
@@ -216,7 +212,7 @@ frame·acked x s = record {
 
 abbrev pub frame·ack : Bool → Frame → Frame
 frame·ack x s = record {
-  spot = s.spot;
+  place = s.place;
   shift = s.shift;
   broadcast = s.broadcast;
   master = s.master;
@@ -236,7 +232,7 @@ frame·ack x s = record {
 
 abbrev pub frame·leads : Bool → Frame → Frame
 frame·leads x s = record {
-  spot = s.spot;
+  place = s.place;
   shift = s.shift;
   broadcast = s.broadcast;
   master = s.master;
@@ -256,7 +252,7 @@ frame·leads x s = record {
 
 abbrev pub frame·sends : Bool → Frame → Frame
 frame·sends x s = record {
-  spot = s.spot;
+  place = s.place;
   shift = s.shift;
   broadcast = s.broadcast;
   master = s.master;
@@ -276,7 +272,7 @@ frame·sends x s = record {
 
 abbrev pub frame·byte : ℕ → Frame → Frame
 frame·byte x s = record {
-  spot = s.spot;
+  place = s.place;
   shift = s.shift;
   broadcast = s.broadcast;
   master = s.master;
@@ -296,7 +292,7 @@ frame·byte x s = record {
 
 abbrev pub frame·limit : ℕ → Frame → Frame
 frame·limit x s = record {
-  spot = s.spot;
+  place = s.place;
   shift = s.shift;
   broadcast = s.broadcast;
   master = s.master;

@@ -182,4 +182,4 @@ at_place f Waiting bit v = moved Nothing f
 at_place f (In field n) bit v = in_field f field n bit v
 
 unfoldable pub level_of : Frame → Bool → View → Moved
-level_of f bit v = at_place f f.spot.place bit v
+level_of f bit v = at_place f f.place bit v

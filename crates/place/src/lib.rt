@@ -22,16 +22,10 @@ pub enum Place {
     In(Field, u8),
 }
 
-// The place, held by itself.
-#[derive(Clone, Copy)]
-pub struct Spot {
-    pub place: Place,
-}
-
 // The frame under way. While the place is waiting, nothing else of it is read, and a start slot builds it afresh.
 #[derive(Clone, Copy)]
 pub struct Frame {
-    pub spot: Spot,
+    pub place: Place,
     // the bits of the field so far
     pub shift: u16,
     pub broadcast: bool,

@@ -95,7 +95,7 @@ compared l = record { held = l.locked; unasked = l.unasked }
 
 -- Demand 3 of the unit, with every condition and every conclusion spelled out: no condition can be added to `Given`,
 -- `Compared` or `Places`, as a bound on the lists, and nothing left out of `Alike`, but a law here fails
-module _ (s : State) (h : ℕ) (A B : List ℕ) (waits : s.core.frame.spot.place ≡ Waiting)
+module _ (s : State) (h : ℕ) (A B : List ℕ) (waits : s.core.frame.place ≡ Waiting)
     (names : s.core.regs.holder ≡ h) (g : spaced false (map class_of A) ≡ true)
     (g' : spaced false (map class_of B) ≡ true) (same : kept h A ≡ kept h B) (i j : ℕ)
     (behind : count (take i (keeps h A)) ≡ count (take j (keeps h B))) where

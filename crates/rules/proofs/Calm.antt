@@ -52,7 +52,7 @@ CalmAt h (In Length n) f bs = Harmless f
 CalmAt h (In Data n) f bs = Harmless f
 
 unfoldable pub Calm : ℕ → Frame → List Bool → Type 0
-Calm h f bs = CalmAt h f.spot.place f bs
+Calm h f bs = CalmAt h f.place f bs
 
 -- the three controls that are open to all are none that draws from TBF, ties the lock, unlocks or receives
 open_is : (control : ℕ) → open_to control ≡ true → (control ≡ 0) ⊎ ((control ≡ 4) ⊎ (control ≡ 5))
@@ -118,7 +118,7 @@ module _ (c : Core) (s : Harmless c.frame) where
       ∙ pick_no (draws c.frame) _ _ (harmless_draws s) ∙ pick_yes c.frame.sends _ _ s.sends
 
 -- how a part ends rests on the lead and on the place
-ended_at : (c : Core) (p : Place) (whole : Bool) → c.frame.leads ≡ false → c.frame.spot.place ≡ p
+ended_at : (c : Core) (p : Place) (whole : Bool) → c.frame.leads ≡ false → c.frame.place ≡ p
     → ended_of c whole ≡ slave_ended p c whole
 unfolding ended_of
 ended_at c p whole l e =
@@ -126,7 +126,7 @@ ended_at c p whole l e =
 
 -- at any place inside it
 pub calm_ended : (h : ℕ) (field : Field) (n : ℕ) (c : Core) (bs : List Bool) (whole : Bool)
-    → c.frame.spot.place ≡ In field n → CalmAt h (In field n) c.frame bs → ended_of c whole ≡ acted Nothing c
+    → c.frame.place ≡ In field n → CalmAt h (In field n) c.frame bs → ended_of c whole ≡ acted Nothing c
 calm_ended h Broadcast n c bs whole e x = ended_at c (In Broadcast n) whole x.0 e
 calm_ended h Master n c bs whole e x = ended_at c (In Master n) whole x.0 e
 calm_ended h Slave n c bs whole e x = ended_at c (In Slave n) whole x.0 e

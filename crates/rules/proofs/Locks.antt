@@ -67,7 +67,7 @@ TiedAt h (In Length n) f = Bound h f
 TiedAt h (In Data n) f = Bound h f
 
 unfoldable pub Tied : ℕ → Frame → Type 0
-Tied h f = TiedAt h f.spot.place f
+Tied h f = TiedAt h f.place f
 
 -- where it is locked, the holder is h
 abbrev Fast : ℕ → Registers → Type 0
@@ -115,7 +115,7 @@ ended_fast : (h : ℕ) (c : Core) (whole : Bool) → c.regs.holder ≡ h → Tie
 unfolding ended_of data_ended Tied
 ended_fast h c whole o t =
     pick_ind (λ (a : Acted). Fast h a.core.regs) c.frame.leads _ _ (λ l. request_fast h c o whole)
-    (λ l. go c.frame.spot.place l t)
+    (λ l. go c.frame.place l t)
   where
     go : (p : Place) → c.frame.leads ≡ false → TiedAt h p c.frame → Fast h (slave_ended p c whole).core.regs
     go Waiting l t = λ k. o
@@ -128,9 +128,9 @@ ended_fast h c whole o t =
 
 cut_ok : (h : ℕ) (c : Core) → c.regs.holder ≡ h → Tied h c.frame → Ok h (cut_of c)
 unfolding cut_of left_of done_of Tied
-cut_ok h c o t = go c.frame.spot.place refl
+cut_ok h c o t = go c.frame.place refl
   where
-    go : (p : Place) → c.frame.spot.place ≡ p → Ok h (cut_at p c)
+    go : (p : Place) → c.frame.place ≡ p → Ok h (cut_at p c)
     go Waiting e = record { fast = λ k. o; tied = t }
     go (In field n) e = record { fast = ended_fast h c false o t; tied = tt }
 
@@ -151,9 +151,9 @@ bound_as h f g l m s k b =
     (λ x. inr (inr (m ∙ x))) y)
     b
 
-tied_as : (h : ℕ) (f g : Frame) → g.spot.place ≡ f.spot.place → (Bound h f → Bound h g) → Tied h f → Tied h g
+tied_as : (h : ℕ) (f g : Frame) → g.place ≡ f.place → (Bound h f → Bound h g) → Tied h f → Tied h g
 unfolding Tied
-tied_as h f g e b t = subst (λ (p : Place). TiedAt h p g) (sym e) (go f.spot.place t)
+tied_as h f g e b t = subst (λ (p : Place). TiedAt h p g) (sym e) (go f.place t)
   where
     go : (p : Place) → TiedAt h p f → TiedAt h p g
     go Waiting t = tt
@@ -384,13 +384,13 @@ module _ (h : ℕ) (c : Core) (seen : Seen) (g : Good h c) where
   unfolding contested_of step.at_field step.at_broadcast step.at_master step.master_of shifted_of next_of to_field Tied
   lost_tied v f Broadcast n b e = tt
   lost_tied v f Master n b e =
-      pick_ind (λ (m : Moved). TiedAt h m.frame.spot.place m.frame) (ltb n 12) _ _ (λ y. tt) (λ y. tt)
+      pick_ind (λ (m : Moved). TiedAt h m.frame.place m.frame) (ltb n 12) _ _ (λ y. tt) (λ y. tt)
   lost_tied v f Slave n b e = absurd (subst T (sym e) tt)
   lost_tied v f Control n b e = absurd (subst T (sym e) tt)
   lost_tied v f Length n b e = absurd (subst T (sym e) tt)
   lost_tied v f Data n b e = absurd (subst T (sym e) tt)
 
-  on_place : (v : View) → v.locked ≡ true → v.holder ≡ h → (f : Frame) (p : Place) (b : Bool) → f.spot.place ≡ p
+  on_place : (v : View) → v.locked ≡ true → v.holder ≡ h → (f : Frame) (p : Place) (b : Bool) → f.place ≡ p
       → TiedAt h p f
       → Leaves (step.at_place f p b v)
   unfolding step.in_field step.overruled_of Leaves on_event Tied
@@ -426,7 +426,7 @@ module _ (h : ℕ) (s : State) (bond : Bonded h s) (locked : s.core.regs.locked 
   level_ok b =
       let seen = seen_of s.tbf s.rbf in
       on_place h (core·idle false s.core) seen (record { holder = named; tied = bond.tied })
-      (view_of s.core.regs seen.clear) locked named s.core.frame s.core.frame.spot.place b refl
+      (view_of s.core.regs seen.clear) locked named s.core.frame s.core.frame.place b refl
       bond.tied
 
   slot_bonded : (k : Slot) → Bonded h (slot_on s k)

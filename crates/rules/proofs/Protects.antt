@@ -77,16 +77,16 @@ unfolding clashes
 no_refusal s b e = ap (λ (d : ℕ). b && eqb d 0) e ∙ never b
 
 -- a cut leaves it as it is
-cut_waiting : (c : Core) → c.frame.spot.place ≡ Waiting → cut_of c ≡ acted Nothing c
+cut_waiting : (c : Core) → c.frame.place ≡ Waiting → cut_of c ≡ acted Nothing c
 unfolding cut_of
 cut_waiting c e = ap (λ (p : Place). cut_at p c) e
 
 -- a cut leaves any unit waiting
-cut_waits : (c : Core) → (cut_of c).core.frame.spot.place ≡ Waiting
+cut_waits : (c : Core) → (cut_of c).core.frame.place ≡ Waiting
 unfolding cut_of left_of done_of
-cut_waits c = go c.frame.spot.place refl
+cut_waits c = go c.frame.place refl
   where
-    go : (p : Place) → c.frame.spot.place ≡ p → (cut_at p c).core.frame.spot.place ≡ Waiting
+    go : (p : Place) → c.frame.place ≡ p → (cut_at p c).core.frame.place ≡ Waiting
     go Waiting e = e
     go (In field n) e = refl
 
@@ -94,9 +94,9 @@ cut_waits c = go c.frame.spot.place refl
 cut_calm : (h : ℕ) (c : Core) (bs : List Bool) → Calm h c.frame bs
     → ((cut_of c).core.regs ≡ c.regs) × ((cut_of c).act ≡ Nothing)
 unfolding cut_of left_of Calm
-cut_calm h c bs x = go c.frame.spot.place refl x
+cut_calm h c bs x = go c.frame.place refl x
   where
-    go : (p : Place) → c.frame.spot.place ≡ p → CalmAt h p c.frame bs
+    go : (p : Place) → c.frame.place ≡ p → CalmAt h p c.frame bs
         → ((cut_at p c).core.regs ≡ c.regs) × ((cut_at p c).act ≡ Nothing)
     go Waiting e y = (refl, refl)
     go (In field n) e y =
@@ -166,7 +166,7 @@ wait_idle_word s w r e =
 
 -- ---- a level while the unit waits
 
-level_waiting : (c : Core) (b : Bool) (seen : Seen) → c.frame.spot.place ≡ Waiting
+level_waiting : (c : Core) (b : Bool) (seen : Seen) → c.frame.place ≡ Waiting
     → on_level c b seen ≡ acted Nothing (core·idle false c)
 unfolding on_level step.level_of on_event
 level_waiting c b seen e =
@@ -302,7 +302,7 @@ module _ (h : ℕ) where
   )
 
   -- it drives 1 up to the master address
-  drive_broadcast : (s : State) (n : ℕ) → s.core.frame.spot.place ≡ In Broadcast n → s.core.frame.leads ≡ false
+  drive_broadcast : (s : State) (n : ℕ) → s.core.frame.place ≡ In Broadcast n → s.core.frame.leads ≡ false
       → next_drive s ≡ 1
   unfolding next_drive core_drive drive.drive_of drive.drive_in
   drive_broadcast s n e l =
@@ -311,7 +311,7 @@ module _ (h : ℕ) where
       ∙ ap (λ (p : Place). bit_of (drive.drive_at s.core.frame p view)) e
       ∙ ap (λ (leads : Bool). bit_of (not leads || view.bit)) l
 
-  drive_master : (s : State) (n : ℕ) → s.core.frame.spot.place ≡ In Master n → s.core.frame.leads ≡ false
+  drive_master : (s : State) (n : ℕ) → s.core.frame.place ≡ In Master n → s.core.frame.leads ≡ false
       → next_drive s ≡ 1
   unfolding next_drive core_drive drive.drive_of drive.drive_in
   drive_master s n e l =
@@ -324,9 +324,9 @@ module _ (h : ℕ) where
   refused_calm : (s : State) (b : Bool) (bs : List Bool) → clashes s b ≡ true → Calm h s.core.frame (b ∷ bs)
       → Calm h s.core.frame bs
   unfolding Calm
-  refused_calm s b bs e x = go s.core.frame.spot.place refl x
+  refused_calm s b bs e x = go s.core.frame.place refl x
     where
-      go : (p : Place) → s.core.frame.spot.place ≡ p → CalmAt h p s.core.frame (b ∷ bs)
+      go : (p : Place) → s.core.frame.place ≡ p → CalmAt h p s.core.frame (b ∷ bs)
           → CalmAt h p s.core.frame bs
       go Waiting q y = tt
       go (In Broadcast n) q y = absurd (subst T (sym e ∙ no_refusal s b (drive_broadcast s n q y.0)) tt)

@@ -90,18 +90,18 @@ module _ (c : Core) where
       (λ u. record { slre = lock_slre c.frame whole c.regs; rbf = λ b. refl })
       (λ u. absurd (false≢true (sym u ∙ not-false c.frame.sends e))))
 
-  on_ended : (whole : Bool) → receives_at c.frame.spot.place c.frame ≡ false → Kept c (ended_of c whole)
+  on_ended : (whole : Bool) → receives_at c.frame.place c.frame ≡ false → Kept c (ended_of c whole)
   unfolding ended_of
   on_ended whole e =
-      pick_ind (Kept c) c.frame.leads _ _ (λ t. on_request whole) (λ t. on_slave c.frame.spot.place whole e)
+      pick_ind (Kept c) c.frame.leads _ _ (λ t. on_request whole) (λ t. on_slave c.frame.place whole e)
 
   left : (a : Acted) (f : Frame) → Kept c a → Kept c (left_of a f)
   unfolding left_of
   left a f k = record { slre = k.slre; rbf = k.rbf }
 
-  cut : receives_at c.frame.spot.place c.frame ≡ false → Kept c (cut_of c)
+  cut : receives_at c.frame.place c.frame ≡ false → Kept c (cut_of c)
   unfolding cut_of rbf_after
-  cut e = go c.frame.spot.place
+  cut e = go c.frame.place
     where
       go : (p : Place) → Kept c (cut_at p c)
       go Waiting = record { slre = refl; rbf = λ b. refl }
@@ -155,7 +155,7 @@ module _ (c : Core) (seen : Seen) where
         (λ t. pick_ind (Kept c) f.sends _ _ (λ u. record { slre = refl; rbf = λ b. refl })
         (λ u. absurd (false≢true (sym u ∙ sends))))
 
-    byte_acked : receives_at f.spot.place f ≡ false → Leaves (moved ByteAcked f)
+    byte_acked : receives_at f.place f ≡ false → Leaves (moved ByteAcked f)
     unfolding Leaves on_event on_byte_acked next_drawn rbf_after
     byte_acked e =
         pick_ind (Kept c) (draws f) _ _
@@ -164,7 +164,7 @@ module _ (c : Core) (seen : Seen) where
         (λ t. pick_ind (Kept c) f.sends _ _ (λ u. record { slre = refl; rbf = λ b. refl })
         (λ u. absurd (false≢true (sym u ∙ sends))))
 
-  module _ (still : receives_at c.frame.spot.place c.frame ≡ false) where
+  module _ (still : receives_at c.frame.place c.frame ≡ false) where
     aborted : (f : Frame) → Leaves (moved Aborted f)
     unfolding Leaves on_event
     aborted f = left c (ended_of c false) f (on_ended c false still)
@@ -245,7 +245,7 @@ module _ (c : Core) (seen : Seen) where
 -- ---- a slot
 
 abbrev pub receives : State → Bool
-receives s = receives_at s.core.frame.spot.place s.core.frame
+receives s = receives_at s.core.frame.place s.core.frame
 
 -- what a reception rests on is the same
 pub record AsReady (s t : State) : Type 0 where
@@ -256,19 +256,19 @@ acted_ready : (s : State) (c : Slot) → Kept s.core (on_slot s.core c (seen_of 
     → AsReady s (acted_by s c)
 acted_ready s c k = record { slre = k.slre; rbf = k.rbf s.rbf }
 
-on-start : (c : Core) (clear : Bool) → receives_at c.frame.spot.place c.frame ≡ false → Kept c (on_start c clear)
+on-start : (c : Core) (clear : Bool) → receives_at c.frame.place c.frame ≡ false → Kept c (on_start c clear)
 unfolding on_start begun
 on-start c clear e = let k = cut c e in record { slre = k.slre; rbf = k.rbf }
 
-on-idle : (c : Core) → receives_at c.frame.spot.place c.frame ≡ false → Kept c (on_idle c)
+on-idle : (c : Core) → receives_at c.frame.place c.frame ≡ false → Kept c (on_idle c)
 unfolding on_idle
 on-idle c e = let k = cut c e in record { slre = k.slre; rbf = k.rbf }
 
-on-level : (c : Core) (bit : Bool) (seen : Seen) → receives_at c.frame.spot.place c.frame ≡ false
+on-level : (c : Core) (bit : Bool) (seen : Seen) → receives_at c.frame.place c.frame ≡ false
     → Kept c (on_level c bit seen)
 unfolding on_level step.level_of Leaves
 on-level c bit seen e =
-    let k = on_place (core·idle false c) seen e c.frame.spot.place bit (view_of c.regs seen.clear) e in
+    let k = on_place (core·idle false c) seen e c.frame.place bit (view_of c.regs seen.clear) e in
     record { slre = k.slre; rbf = k.rbf }
 
 pub slot_ready : (s : State) (c : Slot) → receives s ≡ false → AsReady s (slot_on s c)

@@ -105,7 +105,7 @@ accepted_ready control strq ready locked broadcast =
 -- the word of the P slot comes behind AH, BH, EH or FH, with the right parity, at a slave and of a master that the lock
 -- lets in
 pub record WriteComes (s : State) (bit : Bool) : Type 0 where
-  pub at_p : s.core.frame.spot.place ≡ In Control 4
+  pub at_p : s.core.frame.place ≡ In Control 4
   pub slave : s.core.frame.leads ≡ false
   pub writes : writes_of (s.core.frame.shift % 16) ≡ true
   pub sound : parity_holds s.core.frame.shift bit ≡ true
@@ -171,7 +171,7 @@ module _ (s : State) (bit : Bool) (x : WriteComes s bit) where
   comes_to = stepped ∙ ap (λ (m : Moved). acted_on s (after s m)) moves
 
   place_of : (ready : Bool)
-      → (acted_on s (after s (judged ready))).core.frame.spot.place ≡ pick ready (In Control 5) Waiting
+      → (acted_on s (after s (judged ready))).core.frame.place ≡ pick ready (In Control 5) Waiting
   unfolding go_on on_event left_of next_of done_of with_control
   place_of true = refl
   place_of false = refl
@@ -183,9 +183,9 @@ module _ (s : State) (bit : Bool) (x : WriteComes s bit) where
   drive-of false e = rw (x.at_p, x.slave)
 
   -- the unit goes on to the ACK slot exactly where bit 1 is 0
-  pub write_taken : (unit.step s (bit_of bit)).core.frame.spot.place ≡ pick (eqb (closed s) 0) (In Control 5) Waiting
+  pub write_taken : (unit.step s (bit_of bit)).core.frame.place ≡ pick (eqb (closed s) 0) (In Control 5) Waiting
   write_taken =
-      ap (λ (t : State). t.core.frame.spot.place) comes_to ∙ place_of v.ready
+      ap (λ (t : State). t.core.frame.place) comes_to ∙ place_of v.ready
       ∙ ap (λ (b : Bool). pick b (In Control 5) Waiting) (sym (status_tells s.core.regs (is_empty s.rbf)))
 
   -- and in an individual frame that slot carries bit 1 itself

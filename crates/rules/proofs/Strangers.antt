@@ -83,7 +83,7 @@ module _ (h : ℕ) (c : Core) (seen : Seen) (bs : List Bool) where
     unfolding Leaves on_event on_byte_acked
     byte_acked x = same _ f (pick_no _ _ _ (harmless_draws s) ∙ pick_yes _ _ _ s.sends) x
 
-  module _ (field : Field) (n : ℕ) (e : c.frame.spot.place ≡ In field n) (b : Bool)
+  module _ (field : Field) (n : ℕ) (e : c.frame.place ≡ In field n) (b : Bool)
       (x : CalmAt h (In field n) c.frame (b ∷ bs)) where
     -- the unit's part ends
     ended : (whole : Bool) (f : Frame) → Calm h f bs → Unmoved h c (left_of (ended_of c whole) f) bs
@@ -138,7 +138,7 @@ module _ (h : ℕ) (c : Core) (seen : Seen) (b : Bool) (bs : List Bool) (n : ℕ
   on_broadcast x =
       quiet h c seen bs (to_field (c.frame ▹ frame·broadcast (not b)) Master) (x.0, omega arith, omega arith, x.1)
 
-  on_master : c.frame.spot.place ≡ In Master n → CalmAt h (In Master n) c.frame (b ∷ bs)
+  on_master : c.frame.place ≡ In Master n → CalmAt h (In Master n) c.frame (b ∷ bs)
       → Leaves h c seen bs (at_master c.frame n b)
   unfolding at_master shifted_of next_of master_of to_field Calm
   on_master e x =
@@ -156,7 +156,7 @@ module _ (h : ℕ) (c : Core) (seen : Seen) (b : Bool) (bs : List Bool) (n : ℕ
       addressed h c seen bs (master_of c.frame (parity_holds c.frame.shift b)) x.0
       (x.0, spells_all h n c.frame.shift (b ∷ bs) x.1 (ltb-false n 12 t) x.3))
 
-  on_slave : (own : ℕ) → c.frame.spot.place ≡ In Slave n → CalmAt h (In Slave n) c.frame (b ∷ bs)
+  on_slave : (own : ℕ) → c.frame.place ≡ In Slave n → CalmAt h (In Slave n) c.frame (b ∷ bs)
       → Leaves h c seen bs (at_slave c.frame n b own)
   unfolding at_slave slave_judged shifted_of next_of with_slave to_field Calm
   on_slave own e x =
@@ -228,7 +228,7 @@ module _ (h : ℕ) (c : Core) (seen : Seen) (b : Bool) (bs : List Bool) (n : ℕ
   stranger v l o m = rw (l, o, m)
 
   -- P of the control
-  on_judged : (v : View) → v.locked ≡ true → v.holder ≡ h → c.frame.spot.place ≡ In Control n
+  on_judged : (v : View) → v.locked ≡ true → v.holder ≡ h → c.frame.place ≡ In Control n
       → CalmAt h (In Control n) c.frame (b ∷ bs) → Leaves h c seen bs (control_judged c.frame n b v)
   unfolding control_judged next_of with_control Calm
   on_judged v l o e x =
@@ -246,7 +246,7 @@ module _ (h : ℕ) (c : Core) (seen : Seen) (b : Bool) (bs : List Bool) (n : ℕ
       f.broadcast (stranger v l o x.1) goes in
       (x.0, x.1, λ past. harmless_next Control n (judged_harmless f control ack x.0 open_control)))
 
-  on_control : (v : View) → v.locked ≡ true → v.holder ≡ h → c.frame.spot.place ≡ In Control n
+  on_control : (v : View) → v.locked ≡ true → v.holder ≡ h → c.frame.place ≡ In Control n
       → CalmAt h (In Control n) c.frame (b ∷ bs) → Leaves h c seen bs (at_control c.frame n b v)
   unfolding at_control shifted_of next_of to_field after_ack Calm with_length
   on_control v l o e x =
@@ -263,7 +263,7 @@ module _ (h : ℕ) (c : Core) (seen : Seen) (b : Bool) (bs : List Bool) (n : ℕ
 -- ---- length and data
 
 module _ (h : ℕ) (c : Core) (seen : Seen) (b : Bool) (bs : List Bool) (n : ℕ) (s : Harmless c.frame) where
-  on_length : c.frame.spot.place ≡ In Length n → Leaves h c seen bs (at_length c.frame n b)
+  on_length : c.frame.place ≡ In Length n → Leaves h c seen bs (at_length c.frame n b)
   unfolding at_length length_judged shifted_of next_of to_field after_ack Calm
   on_length e =
       pick_ind (Leaves h c seen bs) (ltb n 8) _ _
@@ -277,14 +277,14 @@ module _ (h : ℕ) (c : Core) (seen : Seen) (b : Bool) (bs : List Bool) (n : ℕ
       (λ z. aborted h c seen bs Length n e b s c.frame)))
 
   -- the last byte, or a byte in the last attempt
-  on_last : c.frame.spot.place ≡ In Data n → (whole : Bool) (f : Frame) → Calm h f bs
+  on_last : c.frame.place ≡ In Data n → (whole : Bool) (f : Frame) → Calm h f bs
       → Unmoved h c (left_of (last_acked c (c.frame.shift % 256) whole) f) bs
   unfolding last_acked
   on_last e whole f y =
       subst (λ (a : Acted). Unmoved h c (left_of a f) bs) (sym (pick_yes _ _ _ s.sends))
       (ended h c seen bs Data n e b s whole f y)
 
-  on_data : c.frame.spot.place ≡ In Data n → Leaves h c seen bs (at_data c.frame n b)
+  on_data : c.frame.place ≡ In Data n → Leaves h c seen bs (at_data c.frame n b)
   unfolding at_data data_judged data_acked ends_of again_of shifted_of next_of to_field done_of acked_of counted_of Calm Leaves
       on_event
   on_data e =
@@ -308,7 +308,7 @@ module _ (h : ℕ) (c : Core) (seen : Seen) (b : Bool) (bs : List Bool) (n : ℕ
 
 module _ (h : ℕ) (c : Core) (seen : Seen) (b : Bool) (bs : List Bool) (v : View) (l : v.locked ≡ true)
     (o : v.holder ≡ h) where
-  on_field : (field : Field) (n : ℕ) → c.frame.spot.place ≡ In field n → CalmAt h (In field n) c.frame (b ∷ bs)
+  on_field : (field : Field) (n : ℕ) → c.frame.place ≡ In field n → CalmAt h (In field n) c.frame (b ∷ bs)
       → Leaves h c seen bs (at_field c.frame field n b v)
   unfolding at_field
   on_field Broadcast n e x = on_broadcast h c seen b bs n x
@@ -331,7 +331,7 @@ module _ (h : ℕ) (c : Core) (seen : Seen) (b : Bool) (bs : List Bool) (v : Vie
   unfolding clash_of
   no_clash field n e = ap (λ (leads : Bool). leads && own_bit c.frame field n && drive_of c.frame v && not b) e
 
-  on_place : (p : Place) → c.frame.spot.place ≡ p → CalmAt h p c.frame (b ∷ bs)
+  on_place : (p : Place) → c.frame.place ≡ p → CalmAt h p c.frame (b ∷ bs)
       → Leaves h c seen bs (at_place c.frame p b v)
   unfolding in_field Calm
   on_place Waiting e x = quiet h c seen bs c.frame (subst (λ (p : Place). CalmAt h p c.frame bs) (sym e) tt)
@@ -341,4 +341,4 @@ module _ (h : ℕ) (c : Core) (seen : Seen) (b : Bool) (bs : List Bool) (v : Vie
 
   pub on-level : Calm h c.frame (b ∷ bs) → Unmoved h c (on_moved c (level_of c.frame b v) seen) bs
   unfolding level_of Calm Leaves
-  on-level x = on_place c.frame.spot.place refl x
+  on-level x = on_place c.frame.place refl x

@@ -38,7 +38,7 @@ use Rattle.rules.proofs.Undisturbed.{stays_ready, step_ready, undisturbed}
 
 -- the unit is at a place of a frame in which it answers 0H or 6H
 pub record SendsStatus (s : State) (p : Place) : Type 0 where
-  pub place : s.core.frame.spot.place ≡ p
+  pub place : s.core.frame.place ≡ p
   pub slave : s.core.frame.leads ≡ false
   pub sends : s.core.frame.sends ≡ true
   pub asked : (s.core.frame.control ≡ 0) ⊎ (s.core.frame.control ≡ 6)
@@ -108,7 +108,7 @@ module _ (s : State) (n : ℕ) (x : SendsStatus s (In Data n)) where
   Goes : Moved → Type 0
   Goes m = SendsStatus (acted_on s (after s m)) (In Data (suc n))
 
-  on : (f : Frame) → f.spot.place ≡ In Data (suc n) → f.leads ≡ false → f.sends ≡ true → f.control ≡ h.control
+  on : (f : Frame) → f.place ≡ In Data (suc n) → f.leads ≡ false → f.sends ≡ true → f.control ≡ h.control
       → Goes (moved Quiet f)
   unfolding Goes on_event
   on f p l q c = record { place = p; slave = l; sends = q; asked = rw c x.asked }

@@ -102,7 +102,7 @@ slave_ended (In Data n) c whole = data_ended c whole
 -- "Ended before all bytes are ACKed, it aborts the request of a master in it that has not lost, .. and any sending or
 -- reception begun." The frame is as it was before it ended
 unfoldable pub ended_of : Core → Bool → Acted
-ended_of c whole = pick c.frame.leads (request_ended c whole) (slave_ended c.frame.spot.place c whole)
+ended_of c whole = pick c.frame.leads (request_ended c whole) (slave_ended c.frame.place c whole)
 
 -- the frame has ended, or the unit has done its part
 unfoldable pub left_of : Acted → Frame → Acted
@@ -114,4 +114,4 @@ cut_at Waiting c = acted Nothing c
 cut_at (In field n) c = left_of (ended_of c false) (done_of c.frame)
 
 unfoldable pub cut_of : Core → Acted
-cut_of c = cut_at c.frame.spot.place c
+cut_of c = cut_at c.frame.place c

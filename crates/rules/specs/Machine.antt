@@ -26,7 +26,7 @@ observed s =
     }
 
 abbrev pub waiting : State → Type 0
-waiting s = s.core.frame.spot.place ≡ Waiting
+waiting s = s.core.frame.place ≡ Waiting
 
 abbrev pub unit : Machine
 unit =

@@ -170,4 +170,4 @@ drive_at Waiting c clear = pick (c.idle && takes_part c.regs clear) drive_start 
 drive_at (In field n) c clear = bit_of (drive_of c.frame (view_of c.regs clear))
 
 unfoldable pub core_drive : Core → Bool → ℕ
-core_drive c clear = drive_at c.frame.spot.place c clear
+core_drive c clear = drive_at c.frame.place c clear

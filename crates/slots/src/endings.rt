@@ -186,8 +186,7 @@ pub(crate) fn ended(core: Core, whole: bool) -> Acted
     if frame.leads {
         return request_ended(core, whole);
     }
-    let spot = frame.spot;
-    let place = spot.place;
+    let place = frame.place;
     slave_ended(place, core, whole)
 }
 
@@ -208,9 +207,7 @@ pub(crate) fn cut(core: Core) -> Acted
     ensures { result ≡ cut_of core }
 {
     let frame = core.frame;
-    let spot = frame.spot;
-    let place = spot.place;
-    match place {
+    match frame.place {
         Place::Waiting => acting(core, Act::Nothing),
         Place::In(_, _) => left(ended(core, false), done(frame)),
     }

@@ -13,7 +13,7 @@ use line::numbers::{ATTEMPTS_MODE_0, ATTEMPTS_MODE_1};
 use line::slot::Slot;
 use moves::none;
 use output::{takes_part, view};
-use place::{Field, Frame, Place, Spot};
+use place::{Field, Frame, Place};
 use rules::state::{Act, Acted, Core, Seen};
 
 mod endings;
@@ -38,10 +38,7 @@ fn begun(leads: bool, long: bool) -> Frame
 {
     let mut frame = none();
     let most = limit(long);
-    let spot = Spot {
-        place: Place::In(Field::Broadcast, 0),
-    };
-    frame.spot = spot;
+    frame.place = Place::In(Field::Broadcast, 0);
     frame.leads = leads;
     frame.limit = most;
     frame
