@@ -168,7 +168,7 @@ fn control_judged(frame: Frame, n: u8, bit: bool, view: View) -> Moved
     let control = (frame.shift % 16) as u8;
     let held = parity_holds(frame.shift as u32, bit);
     let strange = stranger(view, frame.master);
-    let judged = judge_control(control, strange, view.strq, view.ready, view.locked);
+    let judged = judge_control(control, strange, view);
     let ack = held & accepted(judged, frame.broadcast);
     let sends = frame.leads == writes(control);
     go_on(

@@ -1,10 +1,9 @@
 // The judgements that a slave makes at P.
 ghost use Rattle.std.specs.Prelude.{◌≡◌};
-ghost use Rattle.line.specs.Choice.{pick};
 ghost use Rattle.place.specs.Slaves.{accepted_of, addressed_of, by_value, control_of, open_to, stranger_of};
 
 use line::numbers::GENERAL_BROADCAST;
-use place::{Frame, Judged, View};
+use place::{Frame, Part, View};
 
 // The slave address is for this unit, and both parities held: its own or, in a broadcast, the group's ("same top four
 // address bits") or the general one.
@@ -33,54 +32,39 @@ fn open_to_all(control: u8) -> bool
     (control == 0) | (control == 4) | (control == 5)
 }
 
-fn only(allowed: bool, judged: Judged) -> Judged
-    ensures { result ≡ pick allowed judged Judged.Nak }
-{
-    if allowed {
-        return judged;
-    }
-    Judged::Nak
-}
-
-// "Control, decided over all sixteen values."
+// "Control, decided over all sixteen values"; none is NAK.
 #[tactic(auto, unfolding(place::specs::Slaves::by_value))]
-fn by_value(control: u8, strq: bool, ready: bool, locked: bool) -> Judged
-    ensures { result ≡ by_value control strq ready locked }
+fn by_value(control: u8, view: View) -> Option<Part>
+    ensures { result ≡ by_value control view.strq view.ready view.locked }
 {
     match control {
-        0 | 5..=6 => Judged::Sends,
-        4 => only(locked, Judged::Sends),
-        3 | 7 => only(strq, Judged::Sends),
-        10..=11 | 14..=15 => only(ready, Judged::Receives),
-        _ => Judged::Nak,
+        0 | 5..=6 => Some(Part::Sends),
+        4 => view.locked.then_some(Part::Sends),
+        3 | 7 => view.strq.then_some(Part::Sends),
+        10..=11 | 14..=15 => view.ready.then_some(Part::Receives),
+        _ => None,
     }
 }
 
 // What a slave makes of a control: from whom it comes, then its value.
 #[tactic(auto, unfolding(place::specs::Slaves::control_of))]
-pub(crate) fn judge_control(
-    control: u8,
-    strange: bool,
-    strq: bool,
-    ready: bool,
-    locked: bool,
-) -> Judged
-    ensures { result ≡ control_of control strange strq ready locked }
+pub(crate) fn judge_control(control: u8, strange: bool, view: View) -> Option<Part>
+    ensures { result ≡ control_of control strange view.strq view.ready view.locked }
 {
     if strange & !open_to_all(control) {
-        return Judged::Nak;
+        return None;
     }
-    by_value(control, strq, ready, locked)
+    by_value(control, view)
 }
 
 // Whether what was judged is taken: in a broadcast only what is received.
 #[tactic(auto, unfolding(place::specs::Slaves::accepted_of))]
-pub(crate) fn accepted(judged: Judged, broadcast: bool) -> bool
+pub(crate) fn accepted(judged: Option<Part>, broadcast: bool) -> bool
     ensures { result ≡ accepted_of judged broadcast }
 {
     match judged {
-        Judged::Nak => false,
-        Judged::Sends => !broadcast,
-        Judged::Receives => true,
+        None => false,
+        Some(Part::Sends) => !broadcast,
+        Some(Part::Receives) => true,
     }
 }

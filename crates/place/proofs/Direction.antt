@@ -7,15 +7,17 @@ use native.Mathlib.Omega.{arith}
 use borrow.Author.Tests.{eqb-false}
 use lib.Dec.{eqb}
 use lib.ListN.{get_or-eq_default}
+use Rattle.std.specs.Prelude.{Some, None}
+use Rattle.std.specs.declared.option.Option.{Option}
 use Rattle.line.proofs.Either.{by_value as by_number}
 use Rattle.place.specs.Slaves.{by_value, controls, only, writes_of}
-use Rattle.place.specs.declared.Judged.{Judged}
-use Rattle.place.specs.declared.Judged.TheVariants.{Nak, Sends, Receives}
+use Rattle.place.specs.declared.Part.{Part}
+use Rattle.place.specs.declared.Part.TheVariants.{Sends, Receives}
 
-abbrev receives : Judged → Bool
-receives Nak = false
-receives Sends = false
-receives Receives = true
+abbrev receives : Option Part → Bool
+receives None = false
+receives (Some Sends) = false
+receives (Some Receives) = true
 
 sent_only : (b : Bool) → receives (only b Sends) ≡ false
 sent_only true = refl
@@ -43,4 +45,4 @@ direction control strq locked =
     let twelve : 12 ≤ control = climb control 11 (climb control 10 (climb control 9 (climb control 8 eight i) j) k) l in
     let past : 16 ≤ control
     = climb control 15 (climb control 14 (climb control 13 (climb control 12 twelve m) n) o) p in
-    rw (get_or-eq_default (controls strq true locked) Nak {n = control} past, k, l, o, p)))))))))))))))))
+    rw (get_or-eq_default (controls strq true locked) None {n = control} past, k, l, o, p)))))))))))))))))

@@ -1,9 +1,11 @@
 -- Document 01, "Slaves": the judgements that a slave makes at P.
-use Rattle.std.specs.Prelude.{ℕ, ◌/◌, Bool, true, false, not, ◌&&◌, ◌||◌, List, [], ◌∷◌, eqb, get_or}
+use Rattle.std.specs.Prelude.{ℕ, ◌/◌, Bool, true, false, not, ◌&&◌, ◌||◌, List, [], ◌∷◌, eqb, get_or, Some, None}
+use Rattle.std.specs.Bool.{then_some}
+use Rattle.std.specs.declared.option.Option.{Option}
 use Rattle.line.specs.Choice.{pick}
 use Rattle.line.specs.Numbers.{general_broadcast}
-use Rattle.place.specs.declared.Judged.{Judged}
-use Rattle.place.specs.declared.Judged.TheVariants.{Nak, Sends, Receives}
+use Rattle.place.specs.declared.Part.{Part}
+use Rattle.place.specs.declared.Part.TheVariants.{Sends, Receives}
 use Rattle.place.specs.declared.Frame.{Frame}
 use Rattle.place.specs.declared.View.{View}
 
@@ -27,35 +29,36 @@ stranger_of v master = v.locked && not (eqb v.holder master)
 unfoldable pub open_to : ℕ → Bool
 open_to control = eqb control 0 || eqb control 4 || eqb control 5
 
-abbrev pub only : Bool → Judged → Judged
-only allowed judged = pick allowed judged Nak
+-- NAK unless it is allowed
+abbrev pub only : Bool → Part → Option Part
+only allowed part = then_some allowed part
 
--- "Control, decided over all sixteen values", in their order
-abbrev pub controls : Bool → Bool → Bool → List Judged
+-- "Control, decided over all sixteen values", in their order: the part that the slave then has, or NAK
+abbrev pub controls : Bool → Bool → Bool → List (Option Part)
 controls strq ready locked =
-    Sends  -- 0H
-    ∷ Nak ∷ Nak  -- 1H, 2H
+    Some Sends  -- 0H
+    ∷ None ∷ None  -- 1H, 2H
     ∷ only strq Sends  -- 3H: "only with STRQ set"
     ∷ only locked Sends  -- 4H: "unlocked, 4H is NAK"
-    ∷ Sends ∷ Sends  -- 5H, 6H
+    ∷ Some Sends ∷ Some Sends  -- 5H, 6H
     ∷ only strq Sends  -- 7H
-    ∷ Nak ∷ Nak  -- 8H, 9H
+    ∷ None ∷ None  -- 8H, 9H
     ∷ only ready Receives ∷ only ready Receives  -- AH, BH: "only with SLRE set and RBF empty"
-    ∷ Nak ∷ Nak  -- CH, DH
+    ∷ None ∷ None  -- CH, DH
     ∷ only ready Receives ∷ only ready Receives  -- EH, FH
     ∷ []
 
-unfoldable pub by_value : ℕ → Bool → Bool → Bool → Judged
-by_value control strq ready locked = get_or (controls strq ready locked) control Nak
+unfoldable pub by_value : ℕ → Bool → Bool → Bool → Option Part
+by_value control strq ready locked = get_or (controls strq ready locked) control None
 
 -- a stranger gets NAK for all but what is open to it, which no broadcast is taken with: "A locked unit passes over
 -- broadcasts of others than the holder."
-unfoldable pub control_of : ℕ → Bool → Bool → Bool → Bool → Judged
+unfoldable pub control_of : ℕ → Bool → Bool → Bool → Bool → Option Part
 control_of control strange strq ready locked =
-    pick (strange && not (open_to control)) Nak (by_value control strq ready locked)
+    pick (strange && not (open_to control)) None (by_value control strq ready locked)
 
 -- "A broadcast is taken only with AH, BH, EH, FH"
-unfoldable pub accepted_of : Judged → Bool → Bool
-accepted_of Nak broadcast = false
-accepted_of Sends broadcast = not broadcast
-accepted_of Receives broadcast = true
+unfoldable pub accepted_of : Option Part → Bool → Bool
+accepted_of None broadcast = false
+accepted_of (Some Sends) broadcast = not broadcast
+accepted_of (Some Receives) broadcast = true

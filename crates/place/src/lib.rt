@@ -4,7 +4,7 @@
 #![tactic(auto)]
 
 // The fields of a frame, in their order.
-#[derive(Clone, Copy)]
+#[derive(Clone, Copy, Debug, PartialEq, Eq)]
 pub enum Field {
     Broadcast,
     Master,
@@ -16,14 +16,14 @@ pub enum Field {
 
 // "A unit's place in a frame is a field with its count, or waiting for a start." The count goes over the field's bits,
 // then P and, from the slave address on, A.
-#[derive(Clone, Copy)]
+#[derive(Clone, Copy, Debug, PartialEq, Eq)]
 pub enum Place {
     Waiting,
     In(Field, u8),
 }
 
 // The frame under way. While the place is waiting, nothing else of it is read, and a start slot builds it afresh.
-#[derive(Clone, Copy)]
+#[derive(Clone, Copy, Debug, PartialEq, Eq)]
 pub struct Frame {
     pub place: Place,
     // the bits of the field so far
@@ -52,7 +52,7 @@ pub struct Frame {
 
 // What a frame sees of its unit: its address; broadcast bit (as on the wire), slave address and control of its request
 // as master; and what a slave's judgements rest on.
-#[derive(Clone, Copy)]
+#[derive(Clone, Copy, Debug, PartialEq, Eq)]
 pub struct View {
     pub own: u16,
     pub bit: bool,
@@ -66,7 +66,7 @@ pub struct View {
 }
 
 // What a slot brings about, for the unit to act on.
-#[derive(Clone, Copy)]
+#[derive(Clone, Copy, Debug, PartialEq, Eq)]
 pub enum Event {
     Nothing,
     // the contest is lost; the unit goes on as a receiver
@@ -87,16 +87,15 @@ pub enum Event {
     Aborted,
 }
 
-#[derive(Clone, Copy)]
+#[derive(Clone, Copy, Debug, PartialEq, Eq)]
 pub struct Moved {
     pub frame: Frame,
     pub event: Event,
 }
 
-// What a control comes to for a slave: NAK, or the direction of what follows.
-#[derive(Clone, Copy)]
-pub enum Judged {
-    Nak,
+// What part a slave has in what follows a control that it ACKs.
+#[derive(Clone, Copy, Debug, PartialEq, Eq)]
+pub enum Part {
     Sends,
     Receives,
 }

@@ -23,7 +23,7 @@ use Rattle.place.specs.Step.{slave_judged, at_slave, with_control, control_judge
 use Rattle.place.specs.Step.{data_judged, counted_of, acked_of, last_of, whole_of, ends_of, again_of, data_acked, at_data}
 use Rattle.place.specs.Step.{at_field}
 use Rattle.place.specs.Step.{in_field, at_place, level_of}
-use Rattle.place.specs.declared.Judged.TheVariants.{Nak}
+use Rattle.std.specs.Prelude.{None}
 use Rattle.place.specs.declared.Event.TheVariants.{Nothing as Quiet, Addressed, ControlAcked, LengthAcked}
 use Rattle.place.specs.declared.Event.TheVariants.{ByteAcked, Aborted}
 use Rattle.place.specs.declared.Field.{Field}
@@ -214,7 +214,7 @@ pub accepted_open : (control : ℕ) (strange strq ready locked held broadcast : 
 unfolding accepted_of control_of
 accepted_open control strange strq ready locked held broadcast s e = go held (open_to control) (rw s at e)
   where
-    go : (held free : Bool) → (held && accepted_of (pick (true && not free) Nak (by_value control strq ready locked))
+    go : (held free : Bool) → (held && accepted_of (pick (true && not free) None (by_value control strq ready locked))
         broadcast) ≡ true
         → free ≡ true
     go held true e = refl
