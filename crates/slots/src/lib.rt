@@ -81,14 +81,14 @@ fn on_level(mut core: Core, bit: bool, seen: Seen) -> Acted
     on_event(event, core, next, seen)
 }
 
-// What a slot does; a stray bit, which is refused, does nothing.
-pub fn on_slot(core: Core, slot: Slot, seen: Seen) -> Acted
+// What a slot does; where a word with a stray bit, which is refused, says none, nothing happens.
+pub fn on_slot(core: Core, slot: Option<Slot>, seen: Seen) -> Acted
     ensures { result ≡ on_slot core slot seen }
 {
     match slot {
-        Slot::Level(bit) => on_level(core, bit, seen),
-        Slot::Start => on_start(core, seen.clear),
-        Slot::Idle => on_idle(core),
-        Slot::Stray => acting(core, Act::Nothing),
+        Some(Slot::Level(bit)) => on_level(core, bit, seen),
+        Some(Slot::Start) => on_start(core, seen.clear),
+        Some(Slot::Idle) => on_idle(core),
+        None => acting(core, Act::Nothing),
     }
 }
