@@ -37,7 +37,7 @@ pub fn takes_part(regs: Registers, clear: bool) -> bool
 }
 
 // What the unit drives in the next slot: "0, 1 (released) or 2 (start)". "With MARQ set and idle as the latest slot,
-// the unit drives start".
+// the unit drives start". A number, as the answer has it.
 #[tactic(auto, unfolding(rules::specs::Slots::core_drive))]
 pub fn core_drive(core: Core, clear: bool) -> u8
     ensures { result ≡ core_drive core clear }

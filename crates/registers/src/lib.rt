@@ -123,7 +123,8 @@ fn ctr_written(regs: Registers, v: u8) -> Registers
     regs
 }
 
-// The registers after an accepted write but a reset's and TBF's.
+// The registers after an accepted write but a reset's and TBF's. The register is a number, as in `check_write`: what is
+// written to one that is not listed is said too.
 #[tactic(auto, unfolding(rules::specs::Registers::written))]
 pub fn write(regs: Registers, register: u8, v: u8) -> Registers
     ensures { result ≡ written regs register v }

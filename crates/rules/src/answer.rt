@@ -9,7 +9,8 @@ use line::numbers::{
 use std::error::Error;
 use std::fmt;
 
-// An answer to an accepted word: the level or start that the unit drives next and, of a read, the value first.
+// An answer to an accepted word: the level or start that the unit drives next and, of a read, the value first. What is
+// driven is the number of the answer's bits 9-8, and no enum: the word of every number is promised (`answer_word`).
 #[derive(Clone, Copy, Debug, PartialEq, Eq)]
 pub enum Reply {
     Taken(u8),
