@@ -1,8 +1,7 @@
 // A unit on a bench: the host that writes and reads its registers, the line that it shares with another party, and
 // the text that says what both do and what is to come of it, read character by character.
-use line::numbers::{
-    KIND_READ, KIND_REFUSED, KIND_VALUE, KIND_WRITE, SLOT_HIGH, SLOT_IDLE, SLOT_LOW, SLOT_START,
-};
+use crate::slots::{driven, settled, slot_said, slot_word};
+use line::numbers::{KIND_READ, KIND_REFUSED, KIND_VALUE, KIND_WRITE, SLOT_START};
 use line::slot::Slot;
 
 // A sum over answers that tells their order too: each time the sum is multiplied and the answer added, modulo the
@@ -25,10 +24,6 @@ const RBF_READ: u32 = 0x2E00_0000;
 
 // The bits of an answer that say its kind and its value.
 const KIND_AND_VALUE: u32 = 0xF000_00FF;
-
-const LOW: Slot = Slot::Level(false);
-
-const HIGH: Slot = Slot::Level(true);
 
 // An operation that has a number of three figures.
 #[derive(Clone, Copy)]
@@ -98,48 +93,7 @@ pub(crate) struct Bench {
     group: Group,
 }
 
-// What the other party drives in the slot that a character says, and what the line is to settle to.
-fn slot_said(character: u8) -> Option<(Slot, Slot)> {
-    match character {
-        b'0' => Some((LOW, LOW)),
-        b'1' | b'l' => Some((HIGH, HIGH)),
-        b'o' => Some((HIGH, LOW)),
-        b'S' => Some((Slot::Start, Slot::Start)),
-        b's' => Some((HIGH, Slot::Start)),
-        b'I' => Some((Slot::Idle, Slot::Idle)),
-        _ => None,
-    }
-}
-
-// The line settles to the wired AND of what its two parties drive, or to idle where neither drives anything; start is
-// driven over either level.
-fn settled(other: Slot, unit: Slot) -> Slot {
-    match (other, unit) {
-        (Slot::Start, _) | (_, Slot::Start) => Slot::Start,
-        (_, Slot::Level(false)) => LOW,
-        _ => other,
-    }
-}
-
-fn slot_word(slot: Slot) -> u32 {
-    match slot {
-        Slot::Level(false) => SLOT_LOW,
-        Slot::Level(true) => SLOT_HIGH,
-        Slot::Start => SLOT_START,
-        _ => SLOT_IDLE,
-    }
-}
-
-// What the unit drives after an answer.
-fn driven(answer: u32) -> Slot {
-    match answer >> 8 & 3 {
-        SLOT_LOW => LOW,
-        SLOT_START => Slot::Start,
-        _ => HIGH,
-    }
-}
-
-// What a figure says. Every character but a blank says something, which `to_digit` of a char does not tell.
+// What a figure says. Any character may stand for one, so `to_digit` of a char, which knows sixteen, does not serve.
 fn figure_said(character: u8) -> u32 {
     u32::from(character % 16 + character / 64 * 9)
 }
@@ -150,17 +104,18 @@ fn count(number: &mut u64, one: bool) {
 }
 
 impl Group {
-    // The end of a turn. The group is run again from its beginning until it was run as often as asked for.
-    fn turn(&mut self, at: &mut usize) {
+    // The end of a turn, and whether there is another: the group is run as often as asked for, at least once.
+    fn turn(&mut self) -> bool {
         if self.turned == 0 {
             self.first = self.sum;
         }
         count(&mut self.alike, self.sum == self.first);
         self.turned = self.turned.wrapping_add(1);
-        if self.turned < self.turns {
+        let again = self.turned < self.turns;
+        if again {
             self.sum = 0;
-            *at = self.from;
         }
+        again
     }
 }
 
@@ -173,7 +128,7 @@ impl Bench {
             word: 0,
             awaited: 0,
             answer: 0,
-            drive: HIGH,
+            drive: Slot::Level(true),
             counts: Counts::default(),
             group: Group {
                 from: at,
@@ -213,7 +168,11 @@ impl Bench {
             b'w' => self.asked(Asked::Write),
             b'r' => self.asked(Asked::Read),
             b'(' => self.asked(Asked::Group),
-            b')' => self.group.turn(&mut self.at),
+            b')' => {
+                if self.group.turn() {
+                    self.at = self.group.from;
+                }
+            }
             b'+' => {
                 let right = self.counts.wrong == self.counts.wrong_before;
                 count(&mut self.counts.counted, right);
@@ -275,6 +234,7 @@ impl Bench {
         Some(self.word)
     }
 
+    // The answer is a word here, not an enum: it is summed, printed and compared with what the text awaits as a word.
     pub(crate) fn answered(&mut self, answer: u32) {
         self.answer = answer;
         self.group.sum = (self.group.sum % PRIME * FACTOR + u64::from(answer)) % PRIME;

@@ -5,6 +5,7 @@
 
 mod bench;
 mod listed;
+mod slots;
 
 use crate::bench::Bench;
 use crate::listed::Listed;
