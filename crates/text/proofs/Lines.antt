@@ -6,13 +6,16 @@ use native.Mathlib.Numerals.{add-one}
 use native.Mathlib.Omega.{arith}
 use borrow.Author.Tests.{le-ltb}
 use lib.ListN.{length, drop, length-append}
-use Rattle.text.specs.Hex.{line_of}
+use Rattle.text.specs.Hex.{hex_of, line_of}
 use Rattle.text.specs.Last.{last_of, last_text}
 use Rattle.words.specs.Words.{word_at}
 use Rattle.text.specs.Listing.{header, lines_of, listed_of, listing_bytes, listing_of, words_listed}
 use Rattle.text.specs.Writing.{LinesUpTo, LinesIn, pasted}
-use Rattle.text.proofs.Digits.{line_length}
 use Rattle.text.proofs.Pasting.{behind}
+
+line_length : (word answer : ℕ) → length (line_of word answer) ≡ 18
+unfolding line_of hex_of
+line_length word answer = refl
 
 lines_none : (input answers : List ℕ) → lines_of input answers 0 ≡ header
 unfolding lines_of
