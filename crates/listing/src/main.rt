@@ -14,16 +14,14 @@ use unit::step::Unit;
 use words::WORD_BYTES;
 
 // One byte more than is listed, so that a byte that follows is seen.
-const INPUT_BYTES: usize = 16385;
+const INPUT_BYTES: usize = MOST_BYTES + 1;
 
 // How many bytes of an input belong to the words that are listed.
 fn whole_words(bytes: usize) -> usize
     ensures value { result ≡ whole_words bytes }
     ensures upper_bound { result ≤ bytes }
 {
-    if MOST_BYTES < bytes {
-        return MOST_BYTES;
-    }
+    let bytes = bytes.min(MOST_BYTES);
     bytes - bytes % WORD_BYTES
 }
 
@@ -35,15 +33,15 @@ fn listed(input: &[u8], text: &mut [u8]) -> usize
     ensures within { result ≤ length text.old }
 {
     let mut answers = [0u8; MOST_BYTES];
-    let whole = whole_words(input.len());
-    run_bytes(Unit::reset(), &input[0..whole], &mut answers);
+    let whole = &input[..whole_words(input.len())];
+    run_bytes(Unit::reset(), whole, &mut answers);
     listing(input, &answers, text)
 }
 
 // Where nobody reads what is printed, nothing is left to do.
 fn print(rt: &impl Print, input: &[u8], text: &mut [u8]) {
     let count = listed(input, text);
-    let _ = rt.write_all(&text[0..count]);
+    let _ = rt.write_all(&text[..count]);
 }
 
 fn main(rt: HostRuntime) {

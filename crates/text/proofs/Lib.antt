@@ -1,4 +1,3 @@
--- The laws that the proofs share: the bytes of a line, a piece written into a text, and the listing's lines.
-pub mod Digits
+-- The laws that the proofs share: a piece written behind what stands in a text, and the listing's lines.
 pub mod Pasting
 pub mod Lines

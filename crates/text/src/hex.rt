@@ -1,6 +1,9 @@
 // A line of the listing: "word and answer in eight capital hexadecimal digits".
 ghost use Rattle.std.specs.Prelude.{◌≡◌};
-ghost use Rattle.text.specs.Hex.{digit_of, line_of};
+ghost use Rattle.text.specs.Hex.{digit_of, hex_of, line_of};
+
+// How many digits show a word.
+const DIGITS: usize = 8;
 
 // Eight digits, a space, eight digits and the line's end.
 pub const LINE_BYTES: usize = 18;
@@ -9,36 +12,32 @@ pub const LINE_BYTES: usize = 18;
 fn digit(n: u32) -> u8
     ensures { result ≡ digit_of n }
 {
-    let low = n % 16;
+    let low = (n % 16) as u8;
     if low < 10 {
-        (48 + low) as u8
+        b'0' + low
     } else {
-        (55 + low) as u8
+        b'A' + (low - 10)
     }
+}
+
+// The digits of a word, the highest first.
+fn digits(word: u32) -> [u8; DIGITS]
+    ensures { result ≡ hex_of 8 word }
+{
+    let mut digits = [0; DIGITS];
+    for (place, shown) in digits.iter_mut().enumerate() {
+        *shown = digit(word >> (28 - 4 * place));
+    }
+    digits
 }
 
 // The word, a space, the answer and the line's end.
 pub(crate) fn line(word: u32, answer: u32) -> [u8; LINE_BYTES]
     ensures { result ≡ line_of word answer }
 {
-    [
-        digit(word / 0x1000_0000),
-        digit(word / 0x100_0000),
-        digit(word / 0x10_0000),
-        digit(word / 0x1_0000),
-        digit(word / 0x1000),
-        digit(word / 0x100),
-        digit(word / 0x10),
-        digit(word),
-        b' ',
-        digit(answer / 0x1000_0000),
-        digit(answer / 0x100_0000),
-        digit(answer / 0x10_0000),
-        digit(answer / 0x1_0000),
-        digit(answer / 0x1000),
-        digit(answer / 0x100),
-        digit(answer / 0x10),
-        digit(answer),
-        b'\n',
-    ]
+    let mut line = [b' '; LINE_BYTES];
+    line[..DIGITS].copy_from_slice(&digits(word));
+    line[DIGITS + 1..LINE_BYTES - 1].copy_from_slice(&digits(answer));
+    line[LINE_BYTES - 1] = b'\n';
+    line
 }

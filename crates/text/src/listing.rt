@@ -5,22 +5,18 @@ ghost use Rattle.text.specs.Listing.{listed_of, words_listed};
 ghost use Rattle.text.specs.Writing.{LinesIn, pasted};
 
 use crate::hex::{LINE_BYTES, line};
-use crate::last::{Last, MOST_BYTES, last_line};
+use crate::last::{MOST_BYTES, last_line, last_text};
 use words::WORD_BYTES;
 
-// "word answer" and the line's end.
-const HEADER_BYTES: usize = 12;
+const HEADER: &[u8] = b"word answer\n";
 
 // Room for every listing: 12 bytes of header, 18 for each of 4,096 words, and 6 of `short`, the longer last line.
 pub const LISTING_BYTES: usize = 73746;
 
-fn byte_at(bytes: &[u8], at: usize) -> u32
-    ensures { (result ≡ get_or bytes.now at 0) × (result < 256) }
+fn byte_at(bytes: &[u8], at: usize) -> u8
+    ensures { result ≡ get_or bytes.now at 0 }
 {
-    if at < bytes.len() {
-        return bytes[at] as u32;
-    }
-    0
+    bytes.get(at).copied().unwrap_or(0)
 }
 
 // The word at a place of a list of little-endian words; a byte past the list's end counts as 0.
@@ -29,32 +25,27 @@ fn word_at(bytes: &[u8], place: usize) -> u32
     ensures { result ≡ word_at bytes.now place }
 {
     let at = place * WORD_BYTES;
-    byte_at(bytes, at)
-        + byte_at(bytes, at + 1) * 0x100
-        + byte_at(bytes, at + 2) * 0x1_0000
-        + byte_at(bytes, at + 3) * 0x100_0000
+    u32::from_le_bytes([
+        byte_at(bytes, at),
+        byte_at(bytes, at + 1),
+        byte_at(bytes, at + 2),
+        byte_at(bytes, at + 3),
+    ])
 }
 
 // How many words of an input are listed.
 fn words_listed(bytes: usize) -> usize
     ensures { (result ≡ words_listed bytes) × (result ≤ 4096) }
 {
-    if MOST_BYTES < bytes {
-        return MOST_BYTES / WORD_BYTES;
-    }
-    bytes / WORD_BYTES
+    bytes.min(MOST_BYTES) / WORD_BYTES
 }
 
-// Writes a piece into the text, from a place on.
+// Writes a piece into the text, from a place on. The place of each is known: no writer carries one along.
 fn put(text: &mut [u8], at: usize, piece: &[u8])
     requires { at + length piece.now ≤ length text.old }
     ensures { text.new ≡ pasted text.old at piece.now }
 {
-    let mut i: usize = 0;
-    while i < piece.len() {
-        text[at + i] = piece[i];
-        i += 1;
-    }
+    text[at..at + piece.len()].copy_from_slice(piece);
 }
 
 // The header and the lines go to the front of the text; the number says how long they are.
@@ -63,23 +54,19 @@ fn put_lines(input: &[u8], answers: &[u8], text: &mut [u8]) -> usize
     ensures lines_in { LinesIn input.now answers.now text.old result text.new }
     ensures upper_bound { result ≤ 73740 }
 {
-    put(text, 0, b"word answer\n");
+    put(text, 0, HEADER);
     let count = words_listed(input.len());
-    let mut at: usize = HEADER_BYTES;
-    let mut i: usize = 0;
-    while i < count {
+    for i in 0..count {
         let listed = line(word_at(input, i), word_at(answers, i));
-        put(text, at, &listed);
-        at += LINE_BYTES;
-        i += 1;
+        put(text, HEADER.len() + i * LINE_BYTES, &listed);
     }
-    at
+    HEADER.len() + count * LINE_BYTES
 }
 
 // The listing of an input, whose words are answered by those of the second list, goes to the front of the text; the
 // number says how long it is. The rest of the text stays as it was, and so does a text too short for the longest
 // listing, whatever the input: the number is then 0.
-#[tactic(auto, unfolding(crate::specs::Listing::listed_of, crate::specs::Last::last_text))]
+#[tactic(auto, unfolding(crate::specs::Listing::listed_of))]
 pub fn listing(input: &[u8], answers: &[u8], text: &mut [u8]) -> usize
     ensures count { result ≡ length (listed_of input.now answers.now (length text.old)) }
     ensures written { text.new ≡ listed_of input.now answers.now (length text.old)
@@ -90,16 +77,7 @@ pub fn listing(input: &[u8], answers: &[u8], text: &mut [u8]) -> usize
         return 0;
     }
     let at = put_lines(input, answers, text);
-    let last = last_line(input.len());
-    match last {
-        Last::Nothing => at,
-        Last::Short => {
-            put(text, at, b"short\n");
-            at + 6
-        }
-        Last::More => {
-            put(text, at, b"more\n");
-            at + 5
-        }
-    }
+    let last = last_text(last_line(input.len()));
+    put(text, at, last);
+    at + last.len()
 }

@@ -1,10 +1,8 @@
 // A unit on a bench: the host that writes and reads its registers, the line that it shares with another party, and
 // the text that says what both do and what is to come of it, read character by character.
-use line::numbers::{
-    DRIVE_RELEASED, KIND_READ, KIND_REFUSED, KIND_VALUE, KIND_WRITE, SLOT_HIGH, SLOT_IDLE,
-    SLOT_LOW, SLOT_START,
-};
-use std::num::{wrapping_add_u8, wrapping_add_u32, wrapping_add_u64, wrapping_add_usize};
+use crate::slots::{driven, settled, slot_said, slot_word};
+use line::numbers::{KIND_READ, KIND_REFUSED, KIND_VALUE, KIND_WRITE, SLOT_START};
+use line::slot::Slot;
 
 // A sum over answers that tells their order too: each time the sum is multiplied and the answer added, modulo the
 // largest prime below 2^32.
@@ -27,33 +25,50 @@ const RBF_READ: u32 = 0x2E00_0000;
 // The bits of an answer that say its kind and its value.
 const KIND_AND_VALUE: u32 = 0xF000_00FF;
 
+// An operation that has a number of three figures.
 #[derive(Clone, Copy)]
-pub(crate) struct Bench {
-    // Where in the text the next character stands.
-    pub at: usize,
-    // What that character belongs to: an operation (a blank), or what began with the character that is kept here.
-    part: u8,
-    // The figures of an operation that were read, and the number that they make.
-    figures: u8,
+enum Asked {
+    Write,
+    Read,
+    Group,
+}
+
+// Its figures that were read, how many, and the number that they make.
+#[derive(Clone, Copy)]
+struct Figures {
+    asked: Asked,
+    count: u8,
     number: u32,
-    // The latest word, whether it is still to go to the unit, and what a read is to be answered: kind and value.
-    pub word: u32,
-    pub due: bool,
-    awaited: u32,
-    // The latest answer, and what the unit drives: bits 9-8 of the latest one that is no refusal.
-    pub answer: u32,
-    drive: u32,
+}
+
+// What a character of the text belongs to: an operation, a remark, what is printed, a letter in it that stands for a
+// number, or the figures of an operation.
+#[derive(Clone, Copy)]
+enum Part {
+    Operation,
+    Remark,
+    Printed,
+    Letter,
+    Figures(Figures),
+}
+
+#[derive(Clone, Copy, Default)]
+struct Counts {
     words: u64,
     frames: u64,
     refused: u64,
-    // Slots and values other than those awaited.
+    // Slots and values other than those awaited, and how many when the text last counted or began a group.
     wrong: u64,
+    wrong_before: u64,
     // Bytes that the host read from RBF.
     stored: u64,
-    // What the text has counted, and how much was wrong when it last did or began a group.
+    // What the text has counted.
     counted: u64,
-    wrong_before: u64,
-    // A group of the text: where it begins, how often it is to be run, and how often it was.
+}
+
+// A group of the text: where it begins, how often it is to be run, and how often it was.
+#[derive(Clone, Copy, Default)]
+struct Group {
     from: usize,
     turns: u32,
     turned: u32,
@@ -63,16 +78,45 @@ pub(crate) struct Bench {
     alike: u64,
 }
 
-// The line settles to the wired AND of what its two parties drive, or to idle where neither drives anything; start is
-// driven over either level.
-fn settled(other: u32, unit: u32) -> u32 {
-    if unit == SLOT_START {
-        return SLOT_START;
+#[derive(Clone, Copy)]
+pub(crate) struct Bench {
+    // Where in the text the next character stands, and what it belongs to.
+    pub at: usize,
+    part: Part,
+    // The latest word, and what a read is to be answered: kind and value.
+    word: u32,
+    awaited: u32,
+    // The latest answer, and what the unit drives: bits 9-8 of the latest one that is no refusal.
+    answer: u32,
+    drive: Slot,
+    counts: Counts,
+    group: Group,
+}
+
+// What a figure says. Any character may stand for one, so `to_digit` of a char, which knows sixteen, does not serve.
+fn figure_said(character: u8) -> u32 {
+    u32::from(character % 16 + character / 64 * 9)
+}
+
+// One more is counted if it is so.
+fn count(number: &mut u64, one: bool) {
+    *number = number.wrapping_add(u64::from(one));
+}
+
+impl Group {
+    // The end of a turn, and whether there is another: the group is run as often as asked for, at least once.
+    fn turn(&mut self) -> bool {
+        if self.turned == 0 {
+            self.first = self.sum;
+        }
+        count(&mut self.alike, self.sum == self.first);
+        self.turned = self.turned.wrapping_add(1);
+        let again = self.turned < self.turns;
+        if again {
+            self.sum = 0;
+        }
+        again
     }
-    if (unit == SLOT_LOW) & (other != SLOT_START) {
-        return SLOT_LOW;
-    }
-    other
 }
 
 impl Bench {
@@ -80,192 +124,163 @@ impl Bench {
     pub(crate) fn fresh(at: usize) -> Bench {
         Bench {
             at,
-            part: b' ',
-            figures: 0,
-            number: 0,
+            part: Part::Operation,
             word: 0,
-            due: false,
             awaited: 0,
             answer: 0,
-            drive: DRIVE_RELEASED as u32,
-            words: 0,
-            frames: 0,
-            refused: 0,
-            wrong: 0,
-            stored: 0,
-            counted: 0,
-            wrong_before: 0,
-            from: at,
-            turns: 0,
-            turned: 0,
-            sum: 0,
-            first: 0,
-            alike: 0,
-        }
-    }
-
-    pub(crate) fn reads(mut self, rt: &impl Print, character: u8) -> Bench {
-        self.at = wrapping_add_usize(self.at, 1);
-        self.due = false;
-        let part = self.part;
-        match part {
-            b' ' => self.operation(character),
-            b'#' => {
-                if character != b'\n' {
-                    return self;
-                }
-                self.part = b' ';
-                self
-            }
-            b'"' => match character {
-                b'"' => {
-                    self.part = b' ';
-                    self
-                }
-                b'$' => {
-                    self.part = b'$';
-                    self
-                }
-                _ => {
-                    let one = [character];
-                    let _ = rt.write_all(&one);
-                    self
-                }
+            drive: Slot::Level(true),
+            counts: Counts::default(),
+            group: Group {
+                from: at,
+                ..Group::default()
             },
-            b'$' => {
-                self.part = b'"';
+        }
+    }
+
+    // A character of the text is read. If it has a word for the unit, that is the result.
+    pub(crate) fn reads(&mut self, rt: &impl Print, character: u8) -> Option<u32> {
+        self.at = self.at.wrapping_add(1);
+        match self.part {
+            Part::Operation => return self.operation(character),
+            Part::Figures(figures) => return self.figure(figures, character),
+            Part::Remark => {
+                if character == b'\n' {
+                    self.part = Part::Operation;
+                }
+            }
+            Part::Printed => self.printed(rt, character),
+            Part::Letter => {
+                self.part = Part::Printed;
                 self.shows(rt, character);
-                self
             }
-            _ => self.figure(character),
         }
+        None
     }
 
-    fn operation(mut self, character: u8) -> Bench {
+    fn operation(&mut self, character: u8) -> Option<u32> {
+        if let Some((other, awaited)) = slot_said(character) {
+            return Some(self.slot(other, awaited));
+        }
         match character {
-            b' ' | b'\n' => self,
-            b'0' => self.slot(SLOT_LOW, SLOT_LOW),
-            b'1' | b'l' => self.slot(SLOT_HIGH, SLOT_HIGH),
-            b'o' => self.slot(SLOT_HIGH, SLOT_LOW),
-            b'S' => self.slot(SLOT_START, SLOT_START),
-            b's' => self.slot(SLOT_HIGH, SLOT_START),
-            b'I' => self.slot(SLOT_IDLE, SLOT_IDLE),
-            b'#' | b'"' | b'w' | b'r' | b'(' => {
-                self.part = character;
-                self.figures = 0;
-                self.number = 0;
-                self
+            b' ' | b'\n' => {}
+            b'#' => self.part = Part::Remark,
+            b'"' => self.part = Part::Printed,
+            b'w' => self.asked(Asked::Write),
+            b'r' => self.asked(Asked::Read),
+            b'(' => self.asked(Asked::Group),
+            b')' => {
+                if self.group.turn() {
+                    self.at = self.group.from;
+                }
             }
-            b')' => self.turn(),
             b'+' => {
-                let right = self.wrong == self.wrong_before;
-                self.counted = wrapping_add_u64(self.counted, right as u64);
-                self.wrong_before = self.wrong;
-                self
+                let right = self.counts.wrong == self.counts.wrong_before;
+                count(&mut self.counts.counted, right);
+                self.counts.wrong_before = self.counts.wrong;
             }
-            b'R' => Bench::fresh(self.at),
-            _ => {
-                self.wrong = wrapping_add_u64(self.wrong, 1);
-                self
-            }
+            b'R' => *self = Bench::fresh(self.at),
+            _ => count(&mut self.counts.wrong, true),
         }
+        None
     }
 
-    fn slot(mut self, other: u32, awaited: u32) -> Bench {
-        let line = settled(other, self.drive);
-        self.due = true;
-        self.word = line;
-        self.wrong = wrapping_add_u64(self.wrong, (line != awaited) as u64);
-        self
+    fn slot(&mut self, other: Slot, awaited: Slot) -> u32 {
+        self.word = slot_word(settled(other, self.drive));
+        count(&mut self.counts.wrong, self.word != slot_word(awaited));
+        self.word
     }
 
-    // The end of a turn of a group, which is run again from its beginning until it was run as often as asked for.
-    fn turn(mut self) -> Bench {
-        if self.turned == 0 {
-            self.first = self.sum;
-        }
-        self.alike = wrapping_add_u64(self.alike, (self.sum == self.first) as u64);
-        self.turned = wrapping_add_u32(self.turned, 1);
-        if self.turned >= self.turns {
-            return self;
-        }
-        self.sum = 0;
-        self.at = self.from;
-        self
+    fn asked(&mut self, asked: Asked) {
+        self.part = Part::Figures(Figures {
+            asked,
+            count: 0,
+            number: 0,
+        });
     }
 
     // A figure of an operation's number, or a blank between two. With the third the operation is carried out.
-    fn figure(mut self, character: u8) -> Bench {
+    fn figure(&mut self, mut figures: Figures, character: u8) -> Option<u32> {
         if character == b' ' {
-            return self;
+            return None;
         }
-        self.number = self.number << 4 | (character % 16 + character / 64 * 9) as u32;
-        self.figures = wrapping_add_u8(self.figures, 1);
-        if self.figures < 3 {
-            return self;
+        figures.number = figures.number << 4 | figure_said(character);
+        if figures.count < 2 {
+            figures.count += 1;
+            self.part = Part::Figures(figures);
+            return None;
         }
-        let operation = self.part;
-        let number = self.number;
-        self.part = b' ';
-        self.due = operation != b'(';
-        match operation {
-            b'w' => {
-                self.word = WRITE | number >> 8 << 24 | number & 0xFF;
-                self
-            }
-            b'r' => {
+        self.part = Part::Operation;
+        self.carried_out(figures.asked, figures.number)
+    }
+
+    fn carried_out(&mut self, asked: Asked, number: u32) -> Option<u32> {
+        match asked {
+            Asked::Write => self.word = WRITE | number >> 8 << 24 | number & 0xFF,
+            Asked::Read => {
                 self.word = READ | number >> 8 << 24;
                 self.awaited = VALUE | number & 0xFF;
-                self
             }
-            _ => {
-                self.from = self.at;
-                self.turns = number;
-                self.turned = 0;
-                self.alike = 0;
-                self.sum = 0;
-                self.wrong_before = self.wrong;
-                self
+            Asked::Group => {
+                self.group = Group {
+                    from: self.at,
+                    turns: number,
+                    first: self.group.first,
+                    ..Group::default()
+                };
+                self.counts.wrong_before = self.counts.wrong;
+                return None;
             }
         }
+        Some(self.word)
     }
 
-    pub(crate) fn answered(mut self, answer: u32) -> Bench {
+    // The answer is a word here, not an enum: it is summed, printed and compared with what the text awaits as a word.
+    pub(crate) fn answered(&mut self, answer: u32) {
         self.answer = answer;
-        self.sum = (self.sum % PRIME * FACTOR + answer as u64) % PRIME;
-        self.words = wrapping_add_u64(self.words, 1);
-        self.frames = wrapping_add_u64(self.frames, (self.word == SLOT_START) as u64);
-        let missed = (self.word >= READ) & (answer & KIND_AND_VALUE != self.awaited);
-        self.wrong = wrapping_add_u64(self.wrong, missed as u64);
+        self.group.sum = (self.group.sum % PRIME * FACTOR + u64::from(answer)) % PRIME;
+        count(&mut self.counts.words, true);
+        count(&mut self.counts.frames, self.word == SLOT_START);
+        let missed = self.word >= READ && answer & KIND_AND_VALUE != self.awaited;
+        count(&mut self.counts.wrong, missed);
         if answer >= REFUSED {
-            self.refused = wrapping_add_u64(self.refused, 1);
-            return self;
+            count(&mut self.counts.refused, true);
+            return;
         }
-        self.stored = wrapping_add_u64(self.stored, (self.word == RBF_READ) as u64);
-        self.drive = answer >> 8 & 3;
-        self
+        count(&mut self.counts.stored, self.word == RBF_READ);
+        self.drive = driven(answer);
     }
 
-    fn number_of(self, letter: u8) -> u64 {
+    // Where nobody reads what is printed, nothing is left to do.
+    fn printed(&mut self, rt: &impl Print, character: u8) {
+        match character {
+            b'"' => self.part = Part::Operation,
+            b'$' => self.part = Part::Letter,
+            _ => {
+                let _ = rt.write_all(&[character]);
+            }
+        }
+    }
+
+    fn number_of(&self, letter: u8) -> u64 {
         match letter {
-            b'a' => self.answer as u64,
-            b'v' => self.answer as u64 % 256,
-            b'l' => self.word as u64,
-            b'f' => self.frames,
-            b'w' => self.words,
-            b'r' => self.refused,
-            b'x' => self.wrong,
-            b'b' => self.stored,
-            b'+' => self.counted,
-            b'=' => self.alike,
-            b't' => self.turned as u64,
-            b'1' => self.first,
-            _ => self.sum,
+            b'a' => u64::from(self.answer),
+            b'v' => u64::from(self.answer) % 256,
+            b'l' => u64::from(self.word),
+            b'f' => self.counts.frames,
+            b'w' => self.counts.words,
+            b'r' => self.counts.refused,
+            b'x' => self.counts.wrong,
+            b'b' => self.counts.stored,
+            b'+' => self.counts.counted,
+            b'=' => self.group.alike,
+            b't' => u64::from(self.group.turned),
+            b'1' => self.group.first,
+            _ => self.group.sum,
         }
     }
 
     // Where nobody reads what is printed, nothing is left to do.
-    fn shows(self, rt: &impl Print, letter: u8) {
+    fn shows(&self, rt: &impl Print, letter: u8) {
         let number = self.number_of(letter);
         let _ = match letter {
             b'a' | b'1' | b'2' => print!(rt; "{number:08x}"),

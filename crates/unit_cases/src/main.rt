@@ -4,12 +4,13 @@
 #![tactic(auto)]
 
 mod bench;
+mod listed;
+mod slots;
 
 use crate::bench::Bench;
+use crate::listed::Listed;
 use answers::answer_word;
-use list_run::run::run as run_list;
 use pieces::read_full;
-use std::num::wrapping_add_u64;
 use unit::step::Unit;
 
 // Room for the text, and one byte more, by which a longer one is seen.
@@ -19,9 +20,6 @@ const TEXT_BYTES: usize = 32769;
 // end; one that goes on does not print its last lines. The thousand rounds have six million.
 const MOST_CHARACTERS: usize = 20_000_000;
 
-// How many words a list has, but for the last.
-const LIST_WORDS: usize = 250;
-
 // A unit, and the bench that it is on.
 #[derive(Clone, Copy)]
 struct Life {
@@ -29,93 +27,37 @@ struct Life {
     bench: Bench,
 }
 
-// A character of the text is read; if it has a word for the unit, the word goes to it and the answer to the bench.
-fn read(rt: &impl Print, life: Life, character: u8) -> Life {
-    let unit = life.unit;
-    let before = life.bench;
-    let bench = before.reads(rt, character);
-    if !bench.due {
-        return Life { unit, bench };
+impl Life {
+    fn new() -> Life {
+        Life {
+            unit: Unit::reset(),
+            bench: Bench::fresh(0),
+        }
     }
-    let stepped = unit.step(bench.word);
-    let next = stepped.unit;
-    let answer = stepped.answer;
-    Life {
-        unit: next,
-        bench: bench.answered(answer_word(answer)),
-    }
-}
 
-// The unit that is given lists, how many words it was given, and how many places of its answer lists were wrong.
-#[derive(Clone, Copy)]
-struct Listed {
-    unit: Unit,
-    words: u64,
-    wrong: u64,
-}
-
-fn unlisted() -> Listed {
-    Listed {
-        unit: Unit::reset(),
-        words: 0,
-        wrong: 0,
+    // A character of the text is read; if it has a word for the unit, the word goes to it and the answer to the bench.
+    // The result is both.
+    fn reads(&mut self, rt: &impl Print, character: u8) -> Option<(u32, u32)> {
+        let word = self.bench.reads(rt, character)?;
+        let stepped = self.unit.step(word);
+        self.unit = stepped.unit;
+        let answer = answer_word(stepped.answer);
+        self.bench.answered(answer);
+        Some((word, answer))
     }
-}
-
-// A list goes to the unit: each answer is to be the one that was given to the word by itself, and places past the last
-// answer are to keep their 0.
-fn compared(listed: Listed, words: &[u32], said: [u32; LIST_WORDS]) -> Listed {
-    let unit = listed.unit;
-    let mut answers = [0u32; LIST_WORDS];
-    let finished = run_list(unit, words, &mut answers);
-    let next = finished.unit;
-    let mut wrong = listed.wrong;
-    for i in 0..LIST_WORDS {
-        wrong = wrapping_add_u64(wrong, (answers[i] != said[i]) as u64);
-    }
-    Listed {
-        unit: next,
-        words: wrapping_add_u64(listed.words, words.len() as u64),
-        wrong,
-    }
-}
-
-// Where nobody reads what is printed, nothing is left to do.
-fn show(rt: &impl Print, listed: Listed) {
-    let words = listed.words;
-    let wrong = listed.wrong;
-    let _ = println!(rt; "in lists: words {words} wrong {wrong}");
 }
 
 fn run(rt: &impl Print, script: &[u8]) {
-    let mut life = Life {
-        unit: Unit::reset(),
-        bench: Bench::fresh(0),
-    };
-    let mut listed = unlisted();
-    let mut words = [0u32; LIST_WORDS];
-    let mut said = [0u32; LIST_WORDS];
-    let mut held: usize = 0;
+    let mut life = Life::new();
+    let mut listed = Listed::new();
     for _ in 0..MOST_CHARACTERS {
-        let at = life.bench.at;
-        if at >= script.len() {
-            show(rt, compared(listed, &words[..held], said));
+        let Some(character) = script.get(life.bench.at) else {
+            listed.show(rt);
             return;
+        };
+        if let Some((word, said)) = life.reads(rt, *character) {
+            listed.takes(word, said);
         }
-        life = read(rt, life, script[at]);
-        let bench = life.bench;
-        if !bench.due {
-            continue;
-        }
-        words[held] = bench.word;
-        said[held] = bench.answer;
-        held += 1;
-        if held < LIST_WORDS {
-            continue;
-        }
-        listed = compared(listed, &words, said);
-        said = [0u32; LIST_WORDS];
-        held = 0;
     }
 }
 
