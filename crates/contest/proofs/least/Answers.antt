@@ -1,22 +1,23 @@
-use Prim.Native.Nat.{◌-◌}
+use Prim.Native.Nat.{ℕ, ◌≤◌}
 use native.Mathlib.Omega.{arith}
-use Rattle.contest.proofs.Loops.{least_one, least_stays, least_changes, least_of_all}
+use borrow.Author.Count.{below_more}
+use lib.ListN.{get_or}
+use Rattle.contenders.specs.Contest.{nobody, number_of}
 use Rattle.contest.proofs.least.Goals as goal
 use Rattle.contest.proofs.least.Goals.{then-number, else-number}
 
-pub loop-i-init : goal.loop-i-init
-loop-i-init c =
-    least_one c.args.all c.requires.0
-
-pub loop-i-preserved : goal.loop-i-preserved
-loop-i-preserved c =
+pub loop-place-preserved : goal.loop-place-preserved
+loop-place-preserved c =
+    let low = c.loop-place.invariant.low in
     elim c.if-number.branch [
-      | then-number w ↦ rw w.best-is (least_changes c.loop-i.invariant c.loop-i-test.true
-          (omega (arith, w.if-number.true, c.number-in-loop-i.ensures, c.number.ensures)))
-      | else-number w ↦ rw w.best-is (least_stays c.loop-i.invariant c.loop-i-test.true
-          (omega (arith, w.if-number.false, c.number-in-loop-i.ensures, c.number.ensures)))
+      | then-number w ↦ record {
+        within = omega arith;
+        low = rw w.best-is (below_more (λ (i : ℕ). number_of (get_or c.args.contenders.now c.loop-place.place nobody)
+            ≤ number_of (get_or c.args.contenders.now i nobody)) _ (λ i h. omega (arith, low i h)) (omega arith));
+      }
+      | else-number w ↦ record {
+        within = omega arith;
+        low = rw w.best-is (below_more (λ (i : ℕ). number_of (get_or c.args.contenders.now c.loop-place.best nobody)
+            ≤ number_of (get_or c.args.contenders.now i nobody)) _ low (omega arith));
+      }
     ]
-
-pub returns : goal.returns
-returns c =
-    least_of_all c.loop-i.invariant c.loop-i-test.false
