@@ -9,7 +9,8 @@ use native.Mathlib.Omega.{arith}
 use borrow.Author.Tests.{eq-eqb, ne_eqb, lt-ltb, le-ltb}
 use lib.ListN.{length, drop, get_or, set, take, length-drop, drop_of_length-le}
 use lib.Seq.{drop-cons, take_all}
-use Rattle.std.specs.Prelude.{Option}
+use Rattle.std.specs.Prelude.{Option, None, Some}
+use Rattle.std.specs.Option.{is_some}
 use Rattle.std.specs.List.{Any, list_any, position, position_or_len}
 use Rattle.std.proofs.lemmas.List.Folds.{Any-from_list_any, list_any_at}
 use Rattle.std.proofs.lemmas.List.Recursion.{is_position_or_len}
@@ -72,6 +73,15 @@ found_position test cs {r} e =
     (λ h. rw (e, lt-ltb (position_or_len test cs) (length cs) h, first_is_position test cs) (h, refl))
     (λ h. rw (e, le-ltb (position_or_len test cs) (length cs) h, first_is_position test cs) h)
     (below_or_not (position_or_len test cs) (length cs))
+
+-- what is asked of a search by `is_some` alone
+pub found_some : {A : Type 0} (xs : List A) (p : ℕ) (r : Option ℕ) → Found xs p r → is_some r ≡ true → p < length xs
+found_some xs p None f t = absurd (false≢true t)
+found_some xs p (Some q) (h, e) t = omega (arith, h, e)
+
+pub found_none : {A : Type 0} (xs : List A) (p : ℕ) (r : Option ℕ) → Found xs p r → is_some r ≡ false → length xs ≤ p
+found_none xs p None f t = f
+found_none xs p (Some q) f t = absurd (false≢true (sym t))
 
 -- ---- first_twin
 

@@ -13,8 +13,8 @@ differs zero w x = 0
 differs (suc n) w x = pick (eqb (level_of n x) (level_of n w)) (differs n w x) (last_contest_slot - n)
 
 -- what a search for a place gives: that place, none where it lies past the last
-abbrev pub Found : List Contender → ℕ → Option ℕ → Type 0
-Found cs place found = MatchOption found (length cs ≤ place) (λ p. (p < length cs) × (p ≡ place))
+abbrev pub Found : {A : Type 0} → List A → ℕ → Option ℕ → Type 0
+Found xs place found = MatchOption found (length xs ≤ place) (λ p. (p < length xs) × (p ≡ place))
 
 -- contenders for which neither number 14 nor number 15 is given
 pub record Fair (cs : List Contender) : Type 0 where
