@@ -93,9 +93,6 @@ cut cs i h = drop-cons cs i nobody h ∙ rw (add-one i)
 pub record Untwinned (cs : List Contender) (i : ℕ) : Type 0 where
   pub ahead : first_twin cs ≡ i + first_twin (drop i cs)
 
-pub untwinned_none : (cs : List Contender) → Untwinned cs 0
-untwinned_none cs = record { ahead = omega arith }
-
 -- a contender that is among some has a first place there, and no other one has
 module _ (c : Contender) (cs : List Contender) where
   seen_within : list_any (λ d. alike d c) cs ≡ true → first_place (alike c) cs < length cs

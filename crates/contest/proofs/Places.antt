@@ -1,13 +1,13 @@
 -- Places in a list of contenders: who stands where, and whose contender occurs again.
-use mathlib.Core.Bool.{Bool, true, false}
+use mathlib.Core.Bool.{true, false, false≢true}
 use mathlib.Core.Logic.{⊎_elim}
-use mathlib.Core.Path.{◌≡◌, refl, sym, ap, ap₂, subst, ◌∙◌}
+use mathlib.Core.Path.{◌≡◌, refl, sym, ap, ap₂, ◌∙◌}
 use mathlib.Core.List.{List, [], ◌∷◌}
 use Prim.Native.Nat.{ℕ, zero, suc, ◌+◌, ◌≤◌, ◌<◌}
 use native.Mathlib.Numerals.{add-one}
 use native.Mathlib.Omega.{arith}
 use borrow.Author.Tests.{lt-ltb, le-ltb, eq-eqb, eqb-true}
-use lib.Dec.{T, eqb}
+use lib.Dec.{eqb}
 use lib.ListN.{length, get_or, take}
 use Rattle.contenders.specs.Contest.{nobody, contenders_of, first_of, first_twin, alike, OccursAgain, LowestAgain}
 use Rattle.contenders.specs.declared.Contender.{Contender}
@@ -54,9 +54,6 @@ unfolding alike
 alike_back c d =
     rw (eqb_alike c.bit d.bit d.bit c.bit sym sym, eqb_alike c.address d.address d.address c.address sym sym)
     refl
-
-clash : {a : Bool} → a ≡ true → a ≡ false → ⊥
-clash t f = subst T (sym t ∙ f) tt
 
 pub twin_here : (c : Contender) (cs : List Contender) → first_place (alike c) cs < length cs → first_twin (c ∷ cs) ≡ 0
 unfolding first_twin
@@ -109,7 +106,7 @@ unlike_before (c ∷ cs) (suc i) (suc j) before lt h =
 
 none_before : (cs : List Contender) (i : ℕ) → i < first_twin cs → OccursAgain cs i → ⊥
 none_before cs i lt t =
-    clash (same_alike _ _ t.same) (unlike_before cs i t.later lt t.behind t.later_within)
+    false≢true (sym (unlike_before cs i t.later lt t.behind t.later_within) ∙ same_alike _ _ t.same)
 
 -- what ticket 6 says of the place that number 15 names
 pub lowest_again : (cs : List Contender) → first_twin cs < length cs → LowestAgain cs (first_twin cs)

@@ -109,12 +109,6 @@ left-at bytes gone i =
     ∙ sym (without_behind gone (requests_in bytes) i h))
     (below_or_not i gone)
 
-pub left_small : (bytes : List ℕ) (end gone i : ℕ) → left_at bytes end gone i < 8192
-left_small bytes end gone i =
-    ⊎_elim (λ h. rw (lt-ltb (from_place gone i) end h) (omega arith))
-    (λ h. rw (le-ltb (from_place gone i) end h) (omega arith))
-    (below_or_not (from_place gone i) end)
-
 -- no request is read from in front of its place
 pub from_on : (gone i : ℕ) → i ≤ from_place gone i
 from_on gone i = omega arith
@@ -127,15 +121,6 @@ pub record Spelled (ns first now : List ℕ) (i : ℕ) : Type 0 where
   pub low : (j : ℕ) → j < i → get_or now (2 * j + 1) 0 ≡ get_or ns j 0 % 256
   pub high : (j : ℕ) → j < i → get_or now (2 * j + 2) 0 ≡ get_or ns j 0 / 256
   pub kept : (m : ℕ) → 2 * i < m → get_or now m 0 ≡ get_or first m 0
-
-pub none_spelled : (ns first : List ℕ) → Spelled ns first first 0
-none_spelled ns first = record {
-  long = refl;
-  count = refl;
-  low = λ j h. absurd (omega (arith, h));
-  high = λ j h. absurd (omega (arith, h));
-  kept = λ m h. refl;
-}
 
 module _ (l : List ℕ) (p n : ℕ) where
   put_other : (m : ℕ) → (m ≡ 2 * p + 1 → ⊥) → (m ≡ 2 * p + 2 → ⊥) → get_or (put_of p n l) m 0 ≡ get_or l m 0

@@ -1,11 +1,7 @@
 use mathlib.Core.Path.{sym, ◌∙◌}
 use Rattle.contenders.specs.Contest.{alike}
-use Rattle.contest.proofs.Loops.{untwinned_none, untwinned_one, twin_at}
+use Rattle.contest.proofs.Loops.{untwinned_one, twin_at}
 use Rattle.contest.proofs.first_twin.Goals as goal
-
-pub loop-place-init : goal.loop-place-init
-loop-place-init c =
-    untwinned_none c.args.contenders.now
 
 pub returns-then-contains : goal.returns-then-contains
 unfolding alike

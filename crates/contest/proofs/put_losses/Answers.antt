@@ -4,10 +4,6 @@ use Rattle.contest.specs.Deciding.{differs}
 use Rattle.contest.proofs.Loops.{loss_written, losses_written}
 use Rattle.contest.proofs.put_losses.Goals as goal
 
-pub loop-place-init : goal.loop-place-init
-loop-place-init c =
-    grind arith
-
 pub loop-place-preserved : goal.loop-place-preserved
 loop-place-preserved c =
     loss_written _ _ c.loop-place.invariant c.loop-place-test.true (omega arith)

@@ -2,13 +2,9 @@ use borrow.Author.Tests.{eq-eqb, ne_eqb}
 use mathlib.Core.Path.{sym, ◌∙◌}
 use native.Mathlib.Omega.{arith}
 use lib.Dec.{eqb}
-use Rattle.line.proofs.First.{passed_all, passed_here, passed_none, passed_one}
+use Rattle.line.proofs.First.{passed_all, passed_here, passed_one}
 use Rattle.rolls.proofs.Bytes.{requests_at, requests_length}
 use Rattle.roll_keeper.proofs.place_of.Goals as goal
-
-pub loop-place-init : goal.loop-place-init
-loop-place-init c =
-    passed_none _ _
 
 pub returns-then-request-number : goal.returns-then-request-number
 returns-then-request-number c =

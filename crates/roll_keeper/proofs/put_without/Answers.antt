@@ -5,12 +5,8 @@ use Rattle.rolls.specs.Kept.{requests_in}
 use Rattle.rolls.specs.Roll.{without}
 use Rattle.rolls.proofs.Bytes.{requests_length}
 use Rattle.roll_keeper.specs.Keeping.{left_at}
-use Rattle.roll_keeper.proofs.Loops.{Spelled, all_spelled, cleared_spelled, fewer, filled_behind, left_read, none_spelled, one_spelled}
+use Rattle.roll_keeper.proofs.Loops.{Spelled, all_spelled, cleared_spelled, fewer, filled_behind, left_read, one_spelled}
 use Rattle.roll_keeper.proofs.put_without.Goals as goal
-
-pub loop-place-init : goal.loop-place-init
-loop-place-init c =
-    none_spelled _ _
 
 pub loop-place-preserved : goal.loop-place-preserved
 loop-place-preserved c =
