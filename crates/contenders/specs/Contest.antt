@@ -1,5 +1,5 @@
 -- Document 01, "The contest", and the refusals 12 to 15, the last as ticket 6 has it.
-use Rattle.std.specs.Prelude.{Bool, not, ◌&&◌, ◌≡◌, ◌⊎◌, List, [], ◌∷◌, ◌++◌, map, ℕ, zero, suc, ◌+◌, ◌-◌, ◌*◌, ◌/◌, ◌%◌, ◌≤◌, ◌<◌, min, eqb, leb, ltb, length, drop, get_or, set, replicate}
+use Rattle.std.specs.Prelude.{Result, Ok, Err, Bool, not, ◌&&◌, ◌≡◌, ◌⊎◌, List, [], ◌∷◌, ◌++◌, map, ℕ, zero, suc, ◌+◌, ◌-◌, ◌*◌, ◌/◌, ◌%◌, ◌≤◌, ◌<◌, min, eqb, leb, ltb, length, drop, get_or, set, replicate}
 use Rattle.line.specs.Choice.{pick}
 use Rattle.line.specs.Parity.{level_of}
 use Rattle.line.specs.Numbers.{contest_slots, highest_address, last_contest_slot, most_contenders}
@@ -8,10 +8,9 @@ use Rattle.line.specs.Numbers.{refused_contenders_alike}
 use Rattle.line.specs.Places.{first_place}
 use Rattle.contenders.specs.declared.Contender.{Contender}
 use Rattle.contenders.specs.declared.Contenders.{Contenders}
-use Rattle.contenders.specs.declared.Outcome.{Outcome}
+use Rattle.contenders.specs.declared.ContestError.{ContestError}
 use Rattle.contenders.specs.declared.Verdict.{Verdict}
-use Rattle.contenders.specs.declared.Outcome.TheVariants.{Winner, ShortList, WrongCount, OutOfRange}
-use Rattle.contenders.specs.declared.Outcome.TheVariants.{Alike}
+use Rattle.contenders.specs.declared.ContestError.TheVariants.{ShortList, WrongCount, OutOfRange, Alike}
 
 -- ---- The contenders: "a lent list of records, each a broadcast bit and an address"
 
@@ -100,24 +99,27 @@ losses_of cs = map (loss_of contest_slots (map number_of cs)) (map number_of cs)
 abbrev pub winner_of : List Contender → ℕ
 winner_of cs = first_place (λ lost. eqb lost 0) (losses_of cs)
 
--- ---- The outcome
+-- ---- The outcome: the winner's place, or why the contest is refused
+
+abbrev pub Outcome : Type 0
+Outcome = Result ℕ ContestError
 
 -- this paper's number of an outcome, 0 where nothing is refused, and the place that it names, 0 where it names none
 abbrev pub verdict_of : Outcome → Verdict
-verdict_of (Winner p) = record { number = 0; place = p }
-verdict_of ShortList = record { number = refused_short_list; place = 0 }
-verdict_of WrongCount = record { number = refused_contender_count; place = 0 }
-verdict_of (OutOfRange p) = record { number = refused_contender_range; place = p }
-verdict_of (Alike p) = record { number = refused_contenders_alike; place = p }
+verdict_of (Ok p) = record { number = 0; place = p }
+verdict_of (Err ShortList) = record { number = refused_short_list; place = 0 }
+verdict_of (Err WrongCount) = record { number = refused_contender_count; place = 0 }
+verdict_of (Err (OutOfRange p)) = record { number = refused_contender_range; place = p }
+verdict_of (Err (Alike p)) = record { number = refused_contenders_alike; place = p }
 
 -- what a contest comes to, "the lowest number wins"
 unfoldable pub contest_of : List Contender → List ℕ → Outcome
 contest_of cs numbers =
-    pick (ltb (length numbers) (length cs)) ShortList
-    (pick (eqb (length cs) 0) WrongCount
-    (pick (ltb most_contenders (length cs)) WrongCount
-    (pick (ltb (first_out cs) (length cs)) (OutOfRange (first_out cs))
-    (pick (ltb (first_twin cs) (length cs)) (Alike (first_twin cs)) (Winner (winner_of cs))))))
+    pick (ltb (length numbers) (length cs)) (Err ShortList)
+    (pick (eqb (length cs) 0) (Err WrongCount)
+    (pick (ltb most_contenders (length cs)) (Err WrongCount)
+    (pick (ltb (first_out cs) (length cs)) (Err (OutOfRange (first_out cs)))
+    (pick (ltb (first_twin cs) (length cs)) (Err (Alike (first_twin cs))) (Ok (winner_of cs))))))
 
 -- the number list afterwards: "11 and above write nothing"; places past the contenders keep their contents
 unfoldable pub numbers_after : List Contender → List ℕ → Verdict → List ℕ

@@ -9,60 +9,80 @@ use line::numbers::{
     MOST_CONTENDERS, REFUSED_CONTENDER_COUNT, REFUSED_CONTENDER_RANGE, REFUSED_CONTENDERS_ALIKE,
     REFUSED_SHORT_LIST,
 };
+use std::error::Error;
+use std::fmt;
 
 // A master's broadcast bit (0 is broadcast) and its address.
 #[repr(C)]
-#[derive(Clone, Copy)]
+#[derive(Clone, Copy, Debug, PartialEq, Eq)]
 pub struct Contender {
     pub bit: u8,
     pub address: u16,
 }
 
-// How many contenders there are, and the first 50 of them. What stands past the count is of no account.
+// How many contenders there are, and the first 50 of them. What stands past the count is of no account. The contest
+// takes this value where its contenders come one by one, two numbers each: "thin functions read one record and call
+// covered code on two numbers".
 #[derive(Clone, Copy)]
 pub struct Contenders {
     pub count: usize,
     pub list: [Contender; MOST_CONTENDERS],
 }
 
-// How a contest ends: with the winner's place, or refused. A place out of range is the first; one alike is the lowest
-// whose contender occurs again later.
-#[derive(Clone, Copy)]
-pub enum Outcome {
-    Winner(usize),
+// Why a contest is refused. A place out of range is the first; one alike is the lowest whose contender occurs again
+// later.
+#[derive(Clone, Copy, Debug, PartialEq, Eq)]
+pub enum ContestError {
     ShortList,
     WrongCount,
     OutOfRange(usize),
     Alike(usize),
 }
 
-// What document 01 says for an outcome: the refusal's number, 0 where there is none, and the place named, 0 where
-// none is.
-#[derive(Clone, Copy)]
+impl fmt::Display for ContestError {
+    fn fmt<W: fmt::Write>(&self, f: &mut fmt::Formatter<W>) -> fmt::Result {
+        match self {
+            ContestError::ShortList => write!(f, "fewer numbers than contenders"),
+            ContestError::WrongCount => write!(f, "no contender, or over 50"),
+            ContestError::OutOfRange(place) => {
+                write!(f, "the contender at place {place} is out of range")
+            }
+            ContestError::Alike(place) => {
+                write!(f, "the contender at place {place} occurs again")
+            }
+        }
+    }
+}
+
+impl Error for ContestError {}
+
+// What document 01 says for a contest that names the winner's place or is refused: the refusal's number, 0 where there
+// is none, and the place named, 0 where none is.
+#[derive(Clone, Copy, Debug, PartialEq, Eq)]
 pub struct Verdict {
     pub number: u8,
     pub place: usize,
 }
 
-impl Outcome {
-    pub fn verdict(self) -> Verdict
-        ensures { result ≡ verdict_of self }
+impl Verdict {
+    pub fn of(outcome: Result<usize, ContestError>) -> Verdict
+        ensures { result ≡ verdict_of outcome }
     {
-        match self {
-            Outcome::Winner(place) => Verdict { number: 0, place },
-            Outcome::ShortList => Verdict {
+        match outcome {
+            Ok(place) => Verdict { number: 0, place },
+            Err(ContestError::ShortList) => Verdict {
                 number: REFUSED_SHORT_LIST,
                 place: 0,
             },
-            Outcome::WrongCount => Verdict {
+            Err(ContestError::WrongCount) => Verdict {
                 number: REFUSED_CONTENDER_COUNT,
                 place: 0,
             },
-            Outcome::OutOfRange(place) => Verdict {
+            Err(ContestError::OutOfRange(place)) => Verdict {
                 number: REFUSED_CONTENDER_RANGE,
                 place,
             },
-            Outcome::Alike(place) => Verdict {
+            Err(ContestError::Alike(place)) => Verdict {
                 number: REFUSED_CONTENDERS_ALIKE,
                 place,
             },
@@ -87,7 +107,6 @@ impl Contenders {
     {
         if place < MOST_CONTENDERS {
             self.list[place] = Contender { bit, address };
-            return self;
         }
         self
     }

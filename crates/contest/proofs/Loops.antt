@@ -1,40 +1,30 @@
--- What each loop over a value's contenders keeps from turn to turn.
-use mathlib.Core.Bool.{Bool, true, false}
+-- What each loop over the contenders keeps from turn to turn, and what a search over them finds.
+use mathlib.Core.Bool.{Bool, true, false, cond, false≢true}
+use mathlib.Core.Logic.{⊎_elim}
 use mathlib.Core.Path.{◌≡◌, refl, sym, ap, ◌∙◌}
-use mathlib.Core.List.{List, [], ◌∷◌}
+use mathlib.Core.List.{List, ◌∷◌}
 use Prim.Native.Nat.{ℕ, suc, ◌+◌, ◌-◌, ◌≤◌, ◌<◌}
 use native.Mathlib.Numerals.{add-one}
 use native.Mathlib.Omega.{arith}
-use borrow.Author.Count.{below_more}
-use borrow.Author.Tests.{eq-eqb, ne_eqb}
-use lib.ListN.{length, drop, get_or, set, length-drop, drop_of_length-le}
-use lib.Seq.{drop-cons}
+use borrow.Author.Tests.{eq-eqb, ne_eqb, lt-ltb, le-ltb}
+use lib.ListN.{length, drop, get_or, set, take, length-drop, drop_of_length-le}
+use lib.Seq.{drop-cons, take_all}
+use Rattle.std.specs.Prelude.{Option, None, Some}
+use Rattle.std.specs.Option.{is_some}
+use Rattle.std.specs.List.{Any, list_any, position, position_or_len}
+use Rattle.std.proofs.lemmas.List.Folds.{Any-from_list_any, list_any_at}
+use Rattle.std.proofs.lemmas.List.Recursion.{is_position_or_len}
+use Rattle.line.specs.Choice.{pick}
 use Rattle.line.specs.Numbers.{contest_slots, last_contest_slot}
 use Rattle.line.specs.Parity.{level_of}
-use Rattle.contenders.specs.Contest.{nobody, contenders_of, first_twin, first_alike_from, number_of}
-use Rattle.contest.specs.Deciding.{differs, differences, Least, Losses}
-use Rattle.contenders.specs.declared.Contender.{Contender}
-use Rattle.contenders.specs.declared.Contenders.{Contenders}
-use Rattle.line.proofs.Filled.{Filled, nothing_filled, one_filled, all_filled}
-use Rattle.line.proofs.First.{Passed, passed_all, passed_here, passed_none, passed_one}
 use Rattle.line.specs.Places.{first_place}
-use Rattle.contest.proofs.Places.{get_or_first_of, length_first_of, twin_here, twin_later, twin_nil}
-
-pub contenders_length : (all : Contenders) → length (contenders_of all) ≡ all.count
-unfolding contenders_of
-contenders_length all = length_first_of all.count all.list
-
-pub contender_at : (all : Contenders) (i : ℕ) → i < all.count
-    → get_or (contenders_of all) i nobody ≡ get_or all.list i nobody
-unfolding contenders_of
-contender_at all i h = get_or_first_of all.count all.list i h
-
--- the contenders from a place on: the one there, and those behind it
-cut : (all : Contenders) (i : ℕ) → i < all.count
-    → drop i (contenders_of all) ≡ get_or all.list i nobody ∷ drop (i + 1) (contenders_of all)
-cut all i h =
-    drop-cons (contenders_of all) i nobody (omega (arith, contenders_length all))
-    ∙ rw (contender_at all i h, add-one i)
+use Rattle.line.proofs.Filled.{Filled, all_filled, one_filled}
+use Rattle.line.proofs.First.{first_at_most, first_holds}
+use Rattle.line.proofs.Either.{below_or_not}
+use Rattle.contenders.specs.Contest.{nobody, alike, first_twin, number_of}
+use Rattle.contenders.specs.declared.Contender.{Contender}
+use Rattle.contest.specs.Deciding.{Found, Losses, differences, differs}
+use Rattle.contest.proofs.Places.{alike_back, twin_here, twin_later}
 
 -- ---- lost_in: n slots are still to be compared
 
@@ -42,9 +32,6 @@ cut all i h =
 pub record Compared (w x n : ℕ) : Type 0 where
   pub left : n ≤ contest_slots
   pub same : differs contest_slots w x ≡ differs n w x
-
-pub compared_none : (w x : ℕ) → Compared w x 13
-compared_none w x = record { left = omega arith; same = refl }
 
 differs_suc : (w x n : ℕ) → 0 < n → differs n w x ≡ differs (suc (n - 1)) w x
 differs_suc w x n h = let e : n ≡ suc (n - 1) = omega arith in ap (λ (k : ℕ). differs k w x) e
@@ -68,167 +55,102 @@ pub compared_all : {w x n : ℕ} → Compared w x n → n ≤ 0 → 0 ≡ differ
 unfolding differs
 compared_all {w} {x} {n} c h = let e : n ≡ 0 = omega arith in sym (c.same ∙ rw e)
 
--- ---- first_out, alike_from: a search over a value's contenders
+-- ---- first_out: what std's `position` finds
 
-module _ (test : Contender → Bool) (all : Contenders) where
-  pub record Sought (found i : ℕ) : Type 0 where
-    pub passed : Passed test (contenders_of all) found i
-    pub within : i ≤ all.count
+first_is_position : (test : Contender → Bool) (cs : List Contender) → first_place test cs ≡ position_or_len test cs
+unfolding first_place
+first_is_position test cs =
+    is_position_or_len (first_place test) test refl (λ x xs. step (test x) (first_place test xs)) cs
+  where
+    step : (b : Bool) (n : ℕ) → pick b 0 (n + 1) ≡ cond b 0 (1 + n)
+    step true n = refl
+    step false n = omega arith
 
-  pub sought_none : Sought (first_place test (contenders_of all)) 0
-  sought_none = record { passed = passed_none test (contenders_of all); within = omega arith }
+pub found_position : (test : Contender → Bool) (cs : List Contender) {r : Option ℕ} → r ≡ position test cs
+    → Found cs (first_place test cs) r
+found_position test cs {r} e =
+    ⊎_elim
+    (λ h. rw (e, lt-ltb (position_or_len test cs) (length cs) h, first_is_position test cs) (h, refl))
+    (λ h. rw (e, le-ltb (position_or_len test cs) (length cs) h, first_is_position test cs) h)
+    (below_or_not (position_or_len test cs) (length cs))
 
-  pub sought_from : (from : ℕ) → from ≤ all.count
-      → Sought (from + first_place test (drop from (contenders_of all))) from
-  sought_from from h = record {
-    passed = record { ahead = refl; within = omega (arith, contenders_length all) };
-    within = h;
-  }
+-- what is asked of a search by `is_some` alone
+pub found_some : {A : Type 0} (xs : List A) (p : ℕ) (r : Option ℕ) → Found xs p r → is_some r ≡ true → p < length xs
+found_some xs p None f t = absurd (false≢true t)
+found_some xs p (Some q) (h, e) t = omega (arith, h, e)
 
-  pub sought_one : {found i : ℕ} → Sought found i → i < all.count → test (get_or all.list i nobody) ≡ false
-      → Sought found (i + 1)
-  sought_one {found} {i} s h e =
-      record {
-        passed = passed_one test nobody s.passed (omega (arith, contenders_length all))
-            (rw (contender_at all i h) e);
-        within = omega arith;
-      }
-
-  pub sought_here : {found i : ℕ} → Sought found i → i < all.count → test (get_or all.list i nobody) ≡ true
-      → i ≡ found
-  sought_here {found} {i} s h e =
-      passed_here test nobody s.passed (omega (arith, contenders_length all)) (rw (contender_at all i h) e)
-
-  pub sought_all : {found i : ℕ} → Sought found i → all.count ≤ i → i ≡ found
-  sought_all {found} {i} s h = passed_all test s.passed (omega (arith, contenders_length all))
+pub found_none : {A : Type 0} (xs : List A) (p : ℕ) (r : Option ℕ) → Found xs p r → is_some r ≡ false → length xs ≤ p
+found_none xs p None f t = f
+found_none xs p (Some q) f t = absurd (false≢true (sym t))
 
 -- ---- first_twin
 
-pub record Untwinned (all : Contenders) (i : ℕ) : Type 0 where
-  pub ahead : first_twin (contenders_of all) ≡ i + first_twin (drop i (contenders_of all))
-  pub within : i ≤ all.count
+-- the contenders from a place on: the one there, and those behind it
+cut : (cs : List Contender) (i : ℕ) → i < length cs → drop i cs ≡ get_or cs i nobody ∷ drop (i + 1) cs
+cut cs i h = drop-cons cs i nobody h ∙ rw (add-one i)
 
-pub untwinned_none : (all : Contenders) → Untwinned all 0
-untwinned_none all = record { ahead = omega arith; within = omega arith }
+-- the contenders before a place do not occur again
+pub record Untwinned (cs : List Contender) (i : ℕ) : Type 0 where
+  pub ahead : first_twin cs ≡ i + first_twin (drop i cs)
 
-module _ {all : Contenders} {i : ℕ} (u : Untwinned all i) (h : i < all.count) where
-  left_over : length (drop (i + 1) (contenders_of all)) ≡ all.count - (i + 1)
-  left_over = length-drop (i + 1) (contenders_of all) ∙ rw (contenders_length all)
+-- a contender that is among some has a first place there, and no other one has
+module _ (c : Contender) (cs : List Contender) where
+  seen_within : list_any (λ d. alike d c) cs ≡ true → first_place (alike c) cs < length cs
+  seen_within seen = go (Any-from_list_any (λ d. alike d c) cs seen)
+    where
+      go : Any (λ d. alike d c ≡ true) cs → first_place (alike c) cs < length cs
+      go (k, d, inside, is, same) =
+          omega (arith, inside, first_at_most (alike c) cs d k (ap (alike c) is ∙ alike_back c d ∙ same))
 
-  pub untwinned_one : all.count ≤ first_alike_from (get_or all.list i nobody) (i + 1) (contenders_of all)
-      → Untwinned all (i + 1)
-  untwinned_one none =
-      record {
-        ahead =
-            omega (
-              arith,
-              u.ahead,
-              ap first_twin (cut all i h),
-              twin_later (get_or all.list i nobody) (drop (i + 1) (contenders_of all)) (omega (arith, left_over)),
-            );
-        within = omega arith;
-      }
+  seen_nowhere : list_any (λ d. alike d c) cs ≡ false → length cs ≤ first_place (alike c) cs
+  seen_nowhere none =
+      ⊎_elim
+      (λ h. absurd (false≢true (sym none ∙ list_any_at (λ d. alike d c) cs (first_place (alike c) cs) nobody h
+      (alike_back _ c ∙ first_holds (alike c) cs nobody h))))
+      (λ h. h)
+      (below_or_not (first_place (alike c) cs) (length cs))
 
-  pub twin_at : first_alike_from (get_or all.list i nobody) (i + 1) (contenders_of all) < all.count
-      → i ≡ first_twin (contenders_of all)
-  twin_at some =
-      omega (
-        arith,
-        u.ahead,
-        ap first_twin (cut all i h),
-        twin_here (get_or all.list i nobody) (drop (i + 1) (contenders_of all)) (omega (arith, left_over)),
-      )
+module _ {cs : List Contender} {i : ℕ} (u : Untwinned cs i) (h : i < length cs) where
+  abbrev here : Contender
+  here = get_or cs i nobody
 
-pub untwinned_all : {all : Contenders} {i : ℕ} → Untwinned all i → all.count ≤ i → i ≡ first_twin (contenders_of all)
-untwinned_all {all} {i} u h =
-    omega (
+  -- as the code cuts them off
+  abbrev behind : List Contender
+  behind = take (length cs - (i + 1)) (drop (i + 1) cs)
+
+  behind_is : behind ≡ drop (i + 1) cs
+  behind_is = take_all (length cs - (i + 1)) (drop (i + 1) cs) (omega (arith, length-drop (i + 1) cs))
+
+  cut_here : drop i cs ≡ here ∷ behind
+  cut_here = cut cs i h ∙ ap (λ (ds : List Contender). here ∷ ds) (sym behind_is)
+
+  pub untwinned_one : list_any (λ d. alike d here) behind ≡ false → Untwinned cs (i + 1)
+  untwinned_one none = record {
+    ahead = omega (
       arith,
       u.ahead,
-      ap first_twin (drop_of_length-le (contenders_of all) {i = i}
-          (omega (arith, contenders_length all))),
-      twin_nil,
-    )
+      ap first_twin cut_here,
+      twin_later here behind (seen_nowhere here behind none),
+      ap first_twin behind_is,
+    );
+  }
 
--- ---- least
+  pub twin_at : list_any (λ d. alike d here) behind ≡ true → (i < length cs) × (i ≡ first_twin cs)
+  twin_at some =
+      let now = twin_here here behind (seen_within here behind some) in
+      (h, omega (arith, u.ahead, ap first_twin cut_here, now))
 
--- the lowest of the first i contenders stands at a place
-pub record LeastOf (all : Contenders) (place i : ℕ) : Type 0 where
-  pub within : place < i
-  pub counted : i ≤ all.count
-  pub low : (k : ℕ) → k < i → number_of (get_or all.list place nobody) ≤ number_of (get_or all.list k nobody)
+-- ---- put_losses: one slot more
 
-pub least_one : (all : Contenders) → 0 < all.count → LeastOf all 0 1
-least_one all h = record {
-  within = omega arith;
-  counted = h;
-  low = λ k l. let z : k
-      ≡ 0 = omega arith in rw z (omega arith);
-}
-
-pub least_stays : {all : Contenders} {place i : ℕ} → LeastOf all place i → i < all.count
-    → number_of (get_or all.list place nobody) ≤ number_of (get_or all.list i nobody) → LeastOf all place (i + 1)
-least_stays {all} {place} {i} l h le =
-    record {
-      within = omega (arith, l.within);
-      counted = omega arith;
-      low = below_more (λ (k : ℕ). number_of (get_or all.list place nobody) ≤ number_of (get_or all.list k nobody)) i
-          l.low le;
-    }
-
-pub least_changes : {all : Contenders} {place i : ℕ} → LeastOf all place i → i < all.count
-    → number_of (get_or all.list i nobody) < number_of (get_or all.list place nobody) → LeastOf all i (i + 1)
-least_changes {all} {place} {i} l h lt =
-    record {
-      within = omega arith;
-      counted = omega arith;
-      low =
-          below_more (λ (k : ℕ). number_of (get_or all.list i nobody) ≤ number_of (get_or all.list k nobody)) i
-          (λ k below. omega (arith, l.low k below)) (omega arith);
-    }
-
-pub least_of_all : {all : Contenders} {place i : ℕ} → LeastOf all place i → all.count ≤ i
-    → Least (contenders_of all) place
-least_of_all {all} {place} {i} l h =
-    record {
-      within = omega (arith, l.within, l.counted, contenders_length all);
-      low = λ k below.
-          rw (
-            contender_at all place (omega (arith, l.within, l.counted)),
-            contender_at all k
-                (omega (arith, contenders_length all)),
-          )
-          (l.low k (omega (arith, contenders_length all)));
-    }
-
--- ---- put_losses
-
-pub record Written (w : ℕ) (all : Contenders) (first now : List ℕ) (i : ℕ) : Type 0 where
-  pub filled : Filled (differences w (contenders_of all)) first now (differences w (drop i (contenders_of all))) i
-  pub within : i ≤ all.count
-
-pub written_none : (w : ℕ) (all : Contenders) (first : List ℕ) → Written w all first first 0
-written_none w all first = record {
-  filled = nothing_filled
-      (differences w (contenders_of all)) first;
-  within = omega arith;
-}
-
-pub written_one : {w : ℕ} {all : Contenders} {first now : List ℕ} {i : ℕ} (v : ℕ) → Written w all first now i
-    → i < all.count
-    → i < length now → v ≡ differs contest_slots w (number_of (get_or all.list i nobody))
-    → Written w all first (set now i v) (i + 1)
+pub loss_written : (w : ℕ) {v i : ℕ} (cs : List Contender) {first now : List ℕ}
+    → Filled (differences w cs) first now (differences w (drop i cs)) i → i < length cs → i < length now
+    → v ≡ differs contest_slots w (number_of (get_or cs i nobody))
+    → Filled (differences w cs) first (set now i v) (differences w (drop (i + 1) cs)) (i + 1)
 unfolding differences
-written_one {w} {all} {first} {now} {i} v d h room e =
-    let next : differences w (drop i (contenders_of all)) ≡ v ∷ differences w (drop (i + 1) (contenders_of all))
-    = ap (differences w) (cut all i h) ∙ ap (λ (k : ℕ). k ∷ differences w (drop (i + 1) (contenders_of all)))
-    (sym e) in
-    record { filled = one_filled v (rw next at d.filled) room; within = omega arith }
+loss_written w {v} {i} cs f h room e =
+    one_filled v (rw (ap (differences w) (cut cs i h), ← e) at f) room
 
-pub written_all : {w : ℕ} {all : Contenders} {first now : List ℕ} {i : ℕ} → Written w all first now i → all.count ≤ i
-    → Losses w (contenders_of all) first now
+pub losses_written : (w : ℕ) {i : ℕ} (cs : List Contender) {first now : List ℕ}
+    → Filled (differences w cs) first now (differences w (drop i cs)) i → i ≡ length cs → Losses w cs first now
 unfolding differences
-written_all {w} {all} {first} {now} {i} d h =
-    let passed : length (contenders_of all) ≡ i = omega (arith, contenders_length all, d.within) in
-    let none : differences w (drop i (contenders_of all)) ≡ []
-    = ap (differences w) (drop_of_length-le (contenders_of all) {i = i} (omega arith)) in
-    rw passed (all_filled (rw none at d.filled))
+losses_written w {i} cs f e = rw (← e) (all_filled (rw (drop_of_length-le cs {i = i} (omega arith)) at f))

@@ -1,19 +1,19 @@
 -- Places in a list of contenders: who stands where, and whose contender occurs again.
-use mathlib.Core.Bool.{Bool, true, false}
+use mathlib.Core.Bool.{true, false, false≢true}
 use mathlib.Core.Logic.{⊎_elim}
-use mathlib.Core.Path.{◌≡◌, refl, sym, ap, ap₂, subst, ◌∙◌}
+use mathlib.Core.Path.{◌≡◌, refl, sym, ap, ap₂, ◌∙◌}
 use mathlib.Core.List.{List, [], ◌∷◌}
 use Prim.Native.Nat.{ℕ, zero, suc, ◌+◌, ◌≤◌, ◌<◌}
-use native.Mathlib.Nat.{not-suc-le-zero}
 use native.Mathlib.Numerals.{add-one}
 use native.Mathlib.Omega.{arith}
 use borrow.Author.Tests.{lt-ltb, le-ltb, eq-eqb, eqb-true}
-use lib.Dec.{T, eqb}
-use lib.ListN.{length, get_or}
-use Rattle.contenders.specs.Contest.{nobody, first_of, first_twin, alike, OccursAgain, LowestAgain}
+use lib.Dec.{eqb}
+use lib.ListN.{length, get_or, take}
+use Rattle.contenders.specs.Contest.{nobody, contenders_of, first_of, first_twin, alike, OccursAgain, LowestAgain}
 use Rattle.contenders.specs.declared.Contender.{Contender}
+use Rattle.contenders.specs.declared.Contenders.{Contenders}
 use Rattle.line.specs.Places.{first_place}
-use Rattle.line.proofs.Either.{below_or_not, both}
+use Rattle.line.proofs.Either.{below_or_not, both, eqb_alike}
 use Rattle.line.proofs.First.{first_holds, first_none}
 
 pub length_first_of : (n : ℕ) (cs : List Contender) → length (first_of n cs) ≡ n
@@ -22,13 +22,20 @@ length_first_of zero cs = refl
 length_first_of (suc n) [] = ap suc (length_first_of n [])
 length_first_of (suc n) (c ∷ cs) = ap suc (length_first_of n cs)
 
-pub get_or_first_of : (n : ℕ) (cs : List Contender) (i : ℕ) → i < n → get_or (first_of n cs) i nobody ≡ get_or cs i nobody
+first_of_few : (n : ℕ) (cs : List Contender) → n ≤ length cs → first_of n cs ≡ take n cs
 unfolding first_of
-get_or_first_of zero cs i h = absurd (not-suc-le-zero h)
-get_or_first_of (suc n) [] zero h = refl
-get_or_first_of (suc n) [] (suc i) h = get_or_first_of n [] i (omega arith)
-get_or_first_of (suc n) (c ∷ cs) zero h = refl
-get_or_first_of (suc n) (c ∷ cs) (suc i) h = get_or_first_of n cs i (omega arith)
+first_of_few zero cs h = refl
+first_of_few (suc n) [] h = absurd (omega arith)
+first_of_few (suc n) (c ∷ cs) h = ap (λ (ds : List Contender). c ∷ ds) (first_of_few n cs (omega arith))
+
+-- the contenders of a value with room for as many as it counts
+pub contenders_are : (all : Contenders) → all.count ≤ length all.list → contenders_of all ≡ take all.count all.list
+unfolding contenders_of
+contenders_are all h = first_of_few all.count all.list h
+
+pub contenders_length : (all : Contenders) → length (contenders_of all) ≡ all.count
+unfolding contenders_of
+contenders_length all = length_first_of all.count all.list
 
 -- ---- contenders alike
 
@@ -42,8 +49,11 @@ pub same_alike : (c d : Contender) → d ≡ c → alike c d ≡ true
 unfolding alike
 same_alike c d e = rw e (simp (eq-eqb c.bit c.bit refl, eq-eqb c.address c.address refl))
 
-clash : {a : Bool} → a ≡ true → a ≡ false → ⊥
-clash t f = subst T (sym t ∙ f) tt
+pub alike_back : (c d : Contender) → alike c d ≡ alike d c
+unfolding alike
+alike_back c d =
+    rw (eqb_alike c.bit d.bit d.bit c.bit sym sym, eqb_alike c.address d.address d.address c.address sym sym)
+    refl
 
 pub twin_here : (c : Contender) (cs : List Contender) → first_place (alike c) cs < length cs → first_twin (c ∷ cs) ≡ 0
 unfolding first_twin
@@ -96,7 +106,7 @@ unlike_before (c ∷ cs) (suc i) (suc j) before lt h =
 
 none_before : (cs : List Contender) (i : ℕ) → i < first_twin cs → OccursAgain cs i → ⊥
 none_before cs i lt t =
-    clash (same_alike _ _ t.same) (unlike_before cs i t.later lt t.behind t.later_within)
+    false≢true (sym (unlike_before cs i t.later lt t.behind t.later_within) ∙ same_alike _ _ t.same)
 
 -- what ticket 6 says of the place that number 15 names
 pub lowest_again : (cs : List Contender) → first_twin cs < length cs → LowestAgain cs (first_twin cs)

@@ -1,6 +1,6 @@
 -- How the code decides a contest: what private functions promise each other. The public contract rests on none of
 -- this; proofs/Winner.antt shows that it comes to what the slots of Contest.antt say.
-use Rattle.std.specs.Prelude.{◌≡◌, List, ◌++◌, map, ℕ, zero, suc, ◌-◌, ◌≤◌, ◌<◌, eqb, length, drop, get_or}
+use Rattle.std.specs.Prelude.{Option, MatchOption, ◌≡◌, List, ◌++◌, map, ℕ, zero, suc, ◌-◌, ◌≤◌, ◌<◌, eqb, length, drop, get_or}
 use Rattle.line.specs.Choice.{pick}
 use Rattle.line.specs.Parity.{level_of}
 use Rattle.line.specs.Numbers.{contest_slots, last_contest_slot}
@@ -11,6 +11,10 @@ use Rattle.contenders.specs.declared.Contender.{Contender}
 unfoldable pub differs : ℕ → ℕ → ℕ → ℕ
 differs zero w x = 0
 differs (suc n) w x = pick (eqb (level_of n x) (level_of n w)) (differs n w x) (last_contest_slot - n)
+
+-- what a search for a place gives: that place, none where it lies past the last
+abbrev pub Found : {A : Type 0} → List A → ℕ → Option ℕ → Type 0
+Found xs place found = MatchOption found (length xs ≤ place) (λ p. (p < length xs) × (p ≡ place))
 
 -- contenders for which neither number 14 nor number 15 is given
 pub record Fair (cs : List Contender) : Type 0 where

@@ -1,13 +1,14 @@
-// The contest of several masters that begin a frame with the same start slot, in covered forms: the contenders go by
-// value. A refusal writes nothing. The public function has no `requires`, and nothing is assumed.
+// The contest of several masters that begin a frame with the same start slot: the contenders go by value. A refusal
+// writes nothing. The public function has no `requires`, and nothing is assumed.
 #![tactic(auto)]
 
-ghost use Rattle.std.specs.Prelude.{◌≡◌, ◌<◌, ◌≤◌, length};
+ghost use Rattle.std.specs.Prelude.{Ok, ◌≡◌, ◌<◌, ◌≤◌, length};
+ghost use Rattle.line.specs.Numbers.{most_contenders};
 ghost use Rattle.contenders.specs.Contest.{Contested, NamedRightly, contenders_of, verdict_of};
-ghost use Rattle.contenders.specs.Contest.{alike, first_alike_from, first_out, first_twin, in_range, number_of};
-ghost use Rattle.contest.specs.Deciding.{Fair, Least, Losses, differs};
+ghost use Rattle.contenders.specs.Contest.{first_out, first_twin, in_range, number_of};
+ghost use Rattle.contest.specs.Deciding.{Fair, Found, Least, Losses, differs};
 
-use contenders::{Contender, Contenders, Outcome};
+use contenders::{Contender, Contenders, ContestError};
 use line::numbers::{CONTEST_SLOTS, HIGHEST_ADDRESS, LAST_CONTEST_SLOT, MOST_CONTENDERS};
 
 #[tactic(auto, unfolding(contenders::specs::Contest::in_range))]
@@ -17,18 +18,11 @@ fn in_range(contender: Contender) -> bool
     (contender.bit <= 1) & (contender.address <= HIGHEST_ADDRESS)
 }
 
-#[tactic(auto, unfolding(contenders::specs::Contest::alike))]
-fn alike(contender: Contender, other: Contender) -> bool
-    ensures { result ≡ alike contender other }
-{
-    (contender.bit == other.bit) & (contender.address == other.address)
-}
-
 #[tactic(auto, unfolding(contenders::specs::Contest::number_of))]
 fn number(contender: Contender) -> u32
     ensures { result ≡ number_of contender }
 {
-    (contender.bit as u32) * 4096 + contender.address as u32
+    u32::from(contender.bit) * 4096 + u32::from(contender.address)
 }
 
 // The slot in which a contender first differs from the winner, so in which it loses; 0 where it never does.
@@ -36,9 +30,7 @@ fn number(contender: Contender) -> u32
 fn lost_in(winner: u32, number: u32) -> u32
     ensures { result ≡ differs 13 winner number }
 {
-    let mut left = CONTEST_SLOTS;
-    while 0 < left {
-        left -= 1;
+    for left in (0..CONTEST_SLOTS).rev() {
         if (number >> left) % 2 != (winner >> left) % 2 {
             return LAST_CONTEST_SLOT - left;
         }
@@ -46,126 +38,86 @@ fn lost_in(winner: u32, number: u32) -> u32
     0
 }
 
-// The place of the first contender out of range, the count where there is none.
-fn first_out(all: Contenders) -> usize
-    requires { all.count ≤ 50 }
-    ensures { result ≡ first_out (contenders_of all) }
+// The place of the first contender out of range.
+fn first_out(contenders: &[Contender]) -> Option<usize>
+    ensures { Found contenders.now (first_out contenders.now) result }
 {
-    let count = all.count;
-    let mut i: usize = 0;
-    while i < count {
-        let contender = all.list[i];
-        if !in_range(contender) {
-            return i;
-        }
-        i += 1;
-    }
-    i
+    contenders
+        .iter()
+        .position(|contender| !in_range(*contender))
 }
 
-// The first place, from one on, of a contender alike to one given; the count where there is none.
-fn alike_from(all: Contenders, contender: Contender, from: usize) -> usize
-    requires { (all.count ≤ 50) × (from ≤ all.count) }
-    ensures { result ≡ first_alike_from contender from (contenders_of all) }
+// The lowest place whose contender occurs again later.
+fn first_twin(contenders: &[Contender]) -> Option<usize>
+    ensures { Found contenders.now (first_twin contenders.now) result }
 {
-    let count = all.count;
-    let mut i = from;
-    while i < count {
-        let other = all.list[i];
-        if alike(contender, other) {
-            return i;
+    for (place, contender) in contenders.iter().enumerate() {
+        if contenders[place + 1..].contains(contender) {
+            return Some(place);
         }
-        i += 1;
     }
-    i
-}
-
-// The lowest place whose contender occurs again later, the count where there is none.
-fn first_twin(all: Contenders) -> usize
-    requires { all.count ≤ 50 }
-    ensures { result ≡ first_twin (contenders_of all) }
-{
-    let count = all.count;
-    let mut place: usize = 0;
-    while place < count {
-        let contender = all.list[place];
-        if alike_from(all, contender, place + 1) < count {
-            return place;
-        }
-        place += 1;
-    }
-    place
+    None
 }
 
 // The place of a contender with the lowest number of all.
-fn least(all: Contenders) -> usize
-    requires { (0 < all.count) × (all.count ≤ 50) }
-    ensures { Least (contenders_of all) result }
+fn least(contenders: &[Contender]) -> usize
+    requires { (0 < length contenders.now) × (length contenders.now ≤ most_contenders) }
+    ensures { Least contenders.now result }
 {
-    let count = all.count;
     let mut best: usize = 0;
-    let mut i: usize = 1;
-    while i < count {
-        let contender = all.list[i];
-        let leader = all.list[best];
-        if number(contender) < number(leader) {
-            best = i;
+    for (place, contender) in contenders.iter().enumerate() {
+        if number(*contender) < number(contenders[best]) {
+            best = place;
         }
-        i += 1;
     }
     best
 }
 
 // Writes for each contender the slot in which it first differs from the number given.
-fn put_losses(all: Contenders, winner: u32, lost: &mut [u32])
-    requires { (all.count ≤ 50) × (all.count ≤ length lost.old) }
-    ensures { Losses winner (contenders_of all) lost.old lost.new }
+fn put_losses(contenders: &[Contender], winner: u32, lost: &mut [u32])
+    requires { length contenders.now ≤ length lost.old }
+    ensures { Losses winner contenders.now lost.old lost.new }
 {
-    let end = all.count;
-    let mut i: usize = 0;
-    while i < end {
-        let contender = all.list[i];
-        lost[i] = lost_in(winner, number(contender));
-        i += 1;
+    for (place, contender) in contenders.iter().enumerate() {
+        lost[place] = lost_in(winner, number(*contender));
     }
 }
 
 // The contest where nothing is to be refused.
-fn decide(all: Contenders, lost: &mut [u32]) -> Outcome
-    requires count_nonzero { (0 < all.count) × (all.count ≤ 50) × (all.count ≤ length lost.old) }
-    requires fair { Fair (contenders_of all) }
-    ensures whole { Contested (contenders_of all) lost.old result lost.new }
-    ensures named { NamedRightly (contenders_of all) (verdict_of result) }
+fn decide(contenders: &[Contender], lost: &mut [u32]) -> usize
+    requires some { 0 < length contenders.now }
+    requires few { length contenders.now ≤ most_contenders }
+    requires room { length contenders.now ≤ length lost.old }
+    requires fair { Fair contenders.now }
+    ensures whole { Contested contenders.now lost.old (Ok result) lost.new }
+    ensures named { NamedRightly contenders.now (verdict_of (Ok result)) }
 {
-    let best = least(all);
-    let winner = all.list[best];
-    put_losses(all, number(winner), lost);
-    Outcome::Winner(best)
+    let best = least(contenders);
+    put_losses(contenders, number(contenders[best]), lost);
+    best
 }
 
-// The contest. `lost` gets, at each contender's place, the slot in which it lost, 0 for the winner; further places
-// keep their contents, and so do all where the contest is refused.
-pub fn contest(all: Contenders, lost: &mut [u32]) -> Outcome
+// The contest: the winner's place. `lost` gets, at each contender's place, the slot in which it lost, 0 for the winner;
+// further places keep their contents, and so do all where the contest is refused.
+pub fn contest(all: Contenders, lost: &mut [u32]) -> Result<usize, ContestError>
     ensures whole { Contested (contenders_of all) lost.old result lost.new }
     ensures named { NamedRightly (contenders_of all) (verdict_of result) }
 {
-    let count = all.count;
-    if lost.len() < count {
-        return Outcome::ShortList;
+    if lost.len() < all.count {
+        return Err(ContestError::ShortList);
     }
-    if count == 0 {
-        return Outcome::WrongCount;
+    if all.count == 0 {
+        return Err(ContestError::WrongCount);
     }
-    if MOST_CONTENDERS < count {
-        return Outcome::WrongCount;
+    if MOST_CONTENDERS < all.count {
+        return Err(ContestError::WrongCount);
     }
-    let out = first_out(all);
-    if out < count {
-        return Outcome::OutOfRange(out);
+    let contenders = &all.list[..all.count];
+    if let Some(place) = first_out(contenders) {
+        return Err(ContestError::OutOfRange(place));
     }
-    let twin = first_twin(all);
-    if twin < count {
-        return Outcome::Alike(twin);
+    if let Some(place) = first_twin(contenders) {
+        return Err(ContestError::Alike(place));
     }
-    decide(all, lost)
+    Ok(decide(contenders, lost))
 }

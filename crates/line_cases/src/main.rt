@@ -3,7 +3,7 @@
 // list of records.
 #![tactic(auto)]
 
-use contenders::{Contender, Contenders, Outcome};
+use contenders::{Contender, Contenders, ContestError, Verdict};
 
 // Where nobody reads what is printed, nothing is left to do.
 fn say(rt: &impl Print, text: &str) {
@@ -14,20 +14,14 @@ fn number(rt: &impl Print, x: u64) {
     let _ = print!(rt; " {x}");
 }
 
-fn wide(x: u32) -> u64 {
-    x as u64
-}
-
-fn show(rt: &impl Print, outcome: Outcome, lost: &[u32; 52]) {
-    let verdict = outcome.verdict();
-    number(rt, verdict.number as u64);
+fn show(rt: &impl Print, outcome: Result<usize, ContestError>, lost: &[u32; 52]) {
+    let verdict = Verdict::of(outcome);
+    number(rt, u64::from(verdict.number));
     number(rt, verdict.place as u64);
     say(rt, " list");
-    number(rt, wide(lost[0]));
-    number(rt, wide(lost[1]));
-    number(rt, wide(lost[2]));
-    number(rt, wide(lost[49]));
-    number(rt, wide(lost[50]));
+    for place in [0usize, 1, 2, 49, 50] {
+        number(rt, u64::from(lost[place]));
+    }
     say(rt, "\n");
 }
 
@@ -46,25 +40,17 @@ fn run_short(rt: &impl Print, contenders: Contenders) {
 }
 
 // The contest over a list of records that is lent to it.
-fn lent(records: [Contender; 3], lost: &mut [u32]) -> Outcome {
-    records::contest(&records, lost)
-}
-
 fn run_lent(rt: &impl Print, records: [Contender; 3]) {
     let mut lost = [99u32; 52];
-    let outcome = lent(records, &mut lost);
+    let outcome = records::contest(&records, &mut lost);
     show(rt, outcome, &lost);
 }
 
 // Contenders with the ordinary addresses from 7FFH downwards.
 fn many(count: usize) -> Contenders {
     let mut all = Contenders::new(count);
-    let mut address: u16 = 0x7FF;
-    let mut place: usize = 0;
-    while place < 50 {
+    for (place, address) in (0..50).zip((0..=0x7FF).rev()) {
         all = all.with(place, 1, address);
-        address -= 1;
-        place += 1;
     }
     all
 }

@@ -12,7 +12,7 @@ ghost use Rattle.pulses.specs.Conversion.{CalledSlots, number_of, range_in, sett
 ghost use Rattle.pulses.specs.Relied.{Relied as ReliedPulses};
 
 use capture::slots_of_pulses;
-use contenders::{Contender, Contenders};
+use contenders::{Contender, Contenders, Verdict};
 use line::numbers::{
     REFUSED_NO_SLOT, REFUSED_PULSE, REFUSED_RANGES, REFUSED_SHORT_LIST, REFUSED_WINDOW,
 };
@@ -32,11 +32,8 @@ fn contest_word(all: Contenders, lost: &mut [u32]) -> u32
     ensures whole { ContestedWord (contenders_of all) lost.old result lost.new }
     ensures named { NamedRightly (contenders_of all) (verdict_in result) }
 {
-    let outcome = contest::contest(all, lost);
-    let verdict = outcome.verdict();
-    let number = verdict.number;
-    let place = verdict.place;
-    (number as u32) * WORD_HALF + place as u32
+    let verdict = Verdict::of(contest::contest(all, lost));
+    u32::from(verdict.number) * WORD_HALF + verdict.place as u32
 }
 
 // The winner's place, or the refusal's number times 65536 and the place that it names.

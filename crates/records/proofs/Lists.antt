@@ -8,18 +8,18 @@ use Prim.Native.Nat.{ℕ, zero, suc, ◌+◌, ◌≤◌, ◌<◌, min}
 use native.Mathlib.Numerals.{add-one}
 use native.Mathlib.Omega.{arith}
 use borrow.Author.Tests.{lt-ltb, ne_eqb}
+use Rattle.std.specs.Prelude.{Err}
 use lib.Dec.{ltb}
 use lib.ListN.{length, take, get_or, set, replicate}
 use Rattle.line.specs.Choice.{pick}
 use Rattle.line.specs.Numbers.{most_contenders}
 use Rattle.contenders.specs.Contest.{nobody, first_of, contenders_of, no_contenders, verdict_of, contest_of, numbers_after}
-use Rattle.contenders.specs.Contest.{Contested, ContestedWord, NamedRightly, verdict_in}
+use Rattle.contenders.specs.Contest.{Contested, ContestedWord, NamedRightly, Outcome, verdict_in}
 use Rattle.records.specs.Gathered.{with_record, gathered_of}
 use Rattle.contenders.specs.declared.Contender.{Contender}
 use Rattle.contenders.specs.declared.Contenders.{Contenders}
-use Rattle.contenders.specs.declared.Outcome.{Outcome}
 use Rattle.contenders.specs.declared.Verdict.{Verdict}
-use Rattle.contenders.specs.declared.Outcome.TheVariants.{ShortList, WrongCount}
+use Rattle.contenders.specs.declared.ContestError.TheVariants.{ShortList, WrongCount}
 use Rattle.line.proofs.Either.{below_or_not}
 use Rattle.contest.proofs.Places.{length_first_of}
 use Rattle.contest.proofs.Endings.{others_named}
@@ -87,7 +87,7 @@ length_gathered cs = length_first_of (length cs) (first_of most_contenders cs)
 
 -- more than 50 are turned away, whoever they are
 turned_away : (cs : List Contender) (numbers : List ℕ) (n : ℕ) → length cs ≡ n → 50 < n
-    → contest_of cs numbers ≡ pick (ltb (length numbers) n) ShortList WrongCount
+    → contest_of cs numbers ≡ pick (ltb (length numbers) n) (Err ShortList) (Err WrongCount)
 unfolding contest_of
 turned_away cs numbers n is many = rw is (simp (ne_eqb n 0 (λ e. omega arith), lt-ltb 50 n many))
 
@@ -95,7 +95,7 @@ turned_away cs numbers n is many = rw is (simp (ne_eqb n 0 (λ e. omega arith), 
 abbrev TurnedAway : ℕ → Type 0
 TurnedAway number = (0 < number) × (number < 15)
 
-away_number : (b : Bool) → TurnedAway (verdict_of (pick b ShortList WrongCount)).number
+away_number : (b : Bool) → TurnedAway (verdict_of (pick b (Err ShortList) (Err WrongCount))).number
 away_number true = (omega arith, omega arith)
 away_number false = (omega arith, omega arith)
 

@@ -5,15 +5,15 @@ use mathlib.Core.List.{List}
 use Prim.Native.Nat.{ℕ, ◌+◌, ◌*◌, ◌≤◌, ◌<◌}
 use native.Mathlib.Omega.{arith}
 use borrow.Author.Tests.{ltb-true, ltb-false}
+use Rattle.std.specs.Prelude.{Ok, Err}
 use lib.Dec.{eqb, ltb}
 use lib.ListN.{length}
 use Rattle.line.specs.Choice.{pick}
 use Rattle.contenders.specs.Contest.{first_out, first_twin, winner_of, verdict_of, contest_of, numbers_after}
-use Rattle.contenders.specs.Contest.{Contested, ContestedWord, NamedRightly, word_half, verdict_in}
+use Rattle.contenders.specs.Contest.{Contested, ContestedWord, NamedRightly, Outcome, word_half, verdict_in}
 use Rattle.contenders.specs.declared.Contender.{Contender}
-use Rattle.contenders.specs.declared.Outcome.{Outcome}
 use Rattle.contenders.specs.declared.Verdict.{Verdict}
-use Rattle.contenders.specs.declared.Outcome.TheVariants.{Winner, ShortList, WrongCount, OutOfRange, Alike}
+use Rattle.contenders.specs.declared.ContestError.TheVariants.{ShortList, WrongCount, OutOfRange, Alike}
 
 -- an outcome that names a place below 50, where a winner is one of the contenders
 abbrev Fits : List Contender → Outcome → Type 0
@@ -28,17 +28,17 @@ on_both cs false o o' f g = g refl
 contest_fits : (cs : List Contender) (numbers : List ℕ) → Fits cs (contest_of cs numbers)
 unfolding contest_of
 contest_fits cs numbers =
-    let unlike : Outcome = pick (ltb (first_twin cs) (length cs)) (Alike (first_twin cs)) (Winner (winner_of cs)) in
-    let ranged : Outcome = pick (ltb (first_out cs) (length cs)) (OutOfRange (first_out cs)) unlike in
-    let few : Outcome = pick (ltb 50 (length cs)) WrongCount ranged in
-    on_both cs (ltb (length numbers) (length cs)) ShortList (pick (eqb (length cs) 0) WrongCount few)
+    let unlike : Outcome = pick (ltb (first_twin cs) (length cs)) (Err (Alike (first_twin cs))) (Ok (winner_of cs)) in
+    let ranged : Outcome = pick (ltb (first_out cs) (length cs)) (Err (OutOfRange (first_out cs))) unlike in
+    let few : Outcome = pick (ltb 50 (length cs)) (Err WrongCount) ranged in
+    on_both cs (ltb (length numbers) (length cs)) (Err ShortList) (pick (eqb (length cs) 0) (Err WrongCount) few)
     (λ _ _. omega arith) (λ _.
-    on_both cs (eqb (length cs) 0) WrongCount few (λ _ _. omega arith) (λ _.
-    on_both cs (ltb 50 (length cs)) WrongCount ranged (λ _ _. omega arith) (λ f.
+    on_both cs (eqb (length cs) 0) (Err WrongCount) few (λ _ _. omega arith) (λ _.
+    on_both cs (ltb 50 (length cs)) (Err WrongCount) ranged (λ _ _. omega arith) (λ f.
     let most : length cs ≤ 50 = ltb-false 50 (length cs) f in
-    on_both cs (ltb (first_out cs) (length cs)) (OutOfRange (first_out cs)) unlike
+    on_both cs (ltb (first_out cs) (length cs)) (Err (OutOfRange (first_out cs))) unlike
     (λ t _. let out : first_out cs < length cs = ltb-true _ _ t in omega arith) (λ _.
-    on_both cs (ltb (first_twin cs) (length cs)) (Alike (first_twin cs)) (Winner (winner_of cs))
+    on_both cs (ltb (first_twin cs) (length cs)) (Err (Alike (first_twin cs))) (Ok (winner_of cs))
     (λ t _. let twin : first_twin cs < length cs = ltb-true _ _ t in omega arith) (λ _ won. omega (arith, won refl))))))
 
 module _ {cs : List Contender} {numbers : List ℕ} {r : Outcome} {after : List ℕ} {v : Verdict} (e : v ≡ verdict_of r)

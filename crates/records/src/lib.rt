@@ -3,23 +3,12 @@
 // No public function has a `requires`, and nothing is assumed.
 #![tactic(auto)]
 
-ghost use Rattle.std.specs.Prelude.{◌≡◌, ◌<◌, min, length};
-ghost use Rattle.line.specs.Numbers.{most_contenders};
+ghost use Rattle.std.specs.Prelude.{◌≡◌, ◌<◌, length};
 ghost use Rattle.contenders.specs.Contest.{Contested, NamedRightly, verdict_of};
 ghost use Rattle.records.specs.Gathered.{with_record, gathered_of};
 
-use contenders::{Contender, Contenders, Outcome};
+use contenders::{Contender, Contenders, ContestError};
 use line::numbers::MOST_CONTENDERS;
-
-// How many records are read: number 13 needs none past the first 50.
-fn places(count: usize) -> usize
-    ensures { result ≡ min count most_contenders }
-{
-    if MOST_CONTENDERS <= count {
-        return MOST_CONTENDERS;
-    }
-    count
-}
 
 // One record, handed on as two numbers.
 fn with_record(all: Contenders, records: &[Contender], place: usize) -> Contenders
@@ -30,23 +19,20 @@ fn with_record(all: Contenders, records: &[Contender], place: usize) -> Contende
     all.with(place, record.bit, record.address)
 }
 
-// The records as the core takes them.
+// The records as the core takes them: number 13 needs none past the first 50.
 pub fn gathered(records: &[Contender]) -> Contenders
     ensures { result ≡ gathered_of records.now }
 {
-    let end = places(records.len());
     let mut all = Contenders::new(records.len());
-    let mut i: usize = 0;
-    while i < end {
-        all = with_record(all, records, i);
-        i += 1;
+    for place in 0..records.len().min(MOST_CONTENDERS) {
+        all = with_record(all, records, place);
     }
     all
 }
 
-// The contest. `lost` gets, at each contender's place, the slot in which it lost, 0 for the winner; further places keep
-// their contents, and so do all where the contest is refused.
-pub fn contest(records: &[Contender], lost: &mut [u32]) -> Outcome
+// The contest: the winner's place. `lost` gets, at each contender's place, the slot in which it lost, 0 for the winner;
+// further places keep their contents, and so do all where the contest is refused.
+pub fn contest(records: &[Contender], lost: &mut [u32]) -> Result<usize, ContestError>
     ensures whole { Contested records.now lost.old result lost.new }
     ensures named { NamedRightly records.now (verdict_of result) }
 {

@@ -1,12 +1,13 @@
 -- What each call comes to, one law for each way that it ends.
-use mathlib.Core.Bool.{Bool, true, false, not}
+use mathlib.Core.Bool.{true, false, not}
 use mathlib.Core.List.{List, [], ◌∷◌, ◌++◌, append-nil, map}
 use mathlib.Core.Path.{◌≡◌, refl, sym, ap, ap₂, ◌∙◌}
 use Prim.Native.Nat.{ℕ, zero, suc, ◌+◌, ◌-◌, ◌*◌, ◌/◌, ◌%◌, ◌≤◌, ◌<◌}
 use native.Mathlib.Omega.{arith}
-use borrow.Author.Tests.{le-leb, le-ltb, lt-leb, lt-ltb, not-false, not-true}
+use borrow.Author.Tests.{le-leb, le-ltb, lt-leb, lt-ltb}
 use lib.ListN.{drop, drop_of_length-le, get_or, length, length-append, length-drop, length-take, replicate, set, take}
 use lib.Seq.{take_all}
+use Rattle.std.specs.Array.{IsWholeChunk}
 use Rattle.line.specs.Numbers.{most_contenders, roll_bytes}
 use Rattle.line.specs.Places.{placed}
 use Rattle.contenders.specs.Contest.{in_range, number_of}
@@ -19,15 +20,12 @@ use Rattle.rolls.proofs.Bytes.{requests_length}
 use Rattle.rolls.proofs.Changes.{in-range}
 use Rattle.rolls.proofs.Relied.{other-size, right_size}
 use Rattle.rolls.proofs.Winner.{shown_none}
-use Rattle.roll_keeper.specs.Keeping.{Lowest, cleared_of, number_place, put_of, written_of}
+use Rattle.roll_keeper.specs.Keeping.{Lowest, number_place, put_of, written_of}
 use Rattle.roll_keeper.proofs.Numbers.{numbers_joined, numbers_left, number-place, roll_length, shown_lowest}
 
--- whether a request is in range, by the test that the code makes
-pub taken_in : {in-range r : Bool} → r ≡ in-range → not r ≡ false → in-range ≡ true
-taken_in {in-range} {r} e f = sym e ∙ not-false r f
-
-pub kept_out : {in-range r : Bool} → r ≡ in-range → not r ≡ true → in-range ≡ false
-kept_out {in-range} {r} e t = sym e ∙ not-true r t
+-- a roll's bytes as an array are as many
+pub array_long : {xs ys : List ℕ} → IsWholeChunk xs ys roll_bytes → length ys ≡ roll_bytes
+array_long whole = ap (length {A = ℕ}) whole.same ∙ whole.long
 
 -- ---- a request written behind the last
 
@@ -89,32 +87,33 @@ leaves_as {c} {before} {after} r e kept = record {
 
 -- ---- begin
 
-pub begins_not : (before : List ℕ) → (length before ≡ roll_bytes → ⊥) → Begins before 100 before
-unfolding number_for size_end_in done
+pub begins_not : (before : List ℕ) → (length before ≡ roll_bytes → ⊥) → Begins before (number_for BadSize) before
+unfolding size_end_in done
 begins_not before ne = begins_as BadSize (rw (other-size before ne) refl) refl
 
-pub begins : {before after : List ℕ} → length before ≡ roll_bytes → after ≡ cleared_of 0 before → Begins before 0 after
-unfolding number_for size_end_in done bytes_of pairs
+pub begins : {before after : List ℕ} → length before ≡ roll_bytes → after ≡ replicate roll_bytes 0
+    → Begins before (number_for Done) after
+unfolding size_end_in done bytes_of pairs
 begins {before} {after} size e =
-    begins_as Done (rw (right_size before size) refl) (e ∙ ap (λ (n : ℕ). replicate {A = ℕ} (n - 0) 0) size)
+    begins_as Done (rw (right_size before size) refl) e
 
 -- ---- join and leave: a request out of range, bytes of another size
 
 module _ (c : Contender) (before : List ℕ) where
-  pub joins_out : in_range c ≡ false → Joins c before 14 before
-  unfolding number_for join_end_in done
+  pub joins_out : in_range c ≡ false → Joins c before (number_for OutOfRange) before
+  unfolding join_end_in done
   joins_out out = joins_as OutOfRange (rw (out) refl) refl
 
-  pub leaves_out : in_range c ≡ false → Leaves c before 14 before
-  unfolding number_for leave_end_in done
+  pub leaves_out : in_range c ≡ false → Leaves c before (number_for OutOfRange) before
+  unfolding leave_end_in done
   leaves_out out = leaves_as OutOfRange (rw (out) refl) refl
 
-  pub joins_other : in_range c ≡ true → (length before ≡ roll_bytes → ⊥) → Joins c before 100 before
-  unfolding number_for join_end_in done
+  pub joins_other : in_range c ≡ true → (length before ≡ roll_bytes → ⊥) → Joins c before (number_for BadSize) before
+  unfolding join_end_in done
   joins_other right ne = joins_as BadSize (rw (right, other-size before ne) refl) refl
 
-  pub leaves_other : in_range c ≡ true → (length before ≡ roll_bytes → ⊥) → Leaves c before 100 before
-  unfolding number_for leave_end_in done
+  pub leaves_other : in_range c ≡ true → (length before ≡ roll_bytes → ⊥) → Leaves c before (number_for BadSize) before
+  unfolding leave_end_in done
   leaves_other right ne = leaves_as BadSize (rw (right, other-size before ne) refl) refl
 
   -- ---- the others, by the place of the request's number
@@ -134,24 +133,25 @@ module _ (c : Contender) (before : List ℕ) where
     counted : length roll ≡ count_in before
     counted = roll_length before ∙ requests_length before
 
-    is_there : place < count_in before → there c roll ≡ true
-    is_there h = lt-ltb (place_of c roll) (length roll) (omega (arith, h, place_found, counted))
+    is_there : place < length numbers → there c roll ≡ true
+    is_there h = lt-ltb (place_of c roll) (length roll) (omega (arith, h, place_found, roll_length before))
 
-    not_there : count_in before ≤ place → there c roll ≡ false
-    not_there h = le-ltb (place_of c roll) (length roll) (omega (arith, h, place_found, counted))
+    not_there : length numbers ≤ place → there c roll ≡ false
+    not_there h = le-ltb (place_of c roll) (length roll) (omega (arith, h, place_found, roll_length before))
 
-    pub joins_alike : place < count_in before → Joins c before 22 before
-    unfolding number_for join_end_in join_end done
+    pub joins_alike : place < length numbers → Joins c before (number_for Alike) before
+    unfolding join_end_in join_end done
     joins_alike h = joins_as Alike (rw (right, right_size before size, is_there h) refl) refl
 
-    pub joins_full : count_in before ≤ place → most_contenders ≤ count_in before → Joins c before 21 before
-    unfolding number_for join_end_in join_end done
+    pub joins_full : length numbers ≤ place → most_contenders ≤ count_in before
+        → Joins c before (number_for Full) before
+    unfolding join_end_in join_end done
     joins_full h many =
         let full = le-leb most_contenders (length roll) (omega (arith, many, counted)) in
         joins_as Full (rw (right, right_size before size, not_there h, full) refl) refl
 
-    pub leaves_absent : count_in before ≤ place → Leaves c before 23 before
-    unfolding number_for leave_end_in leave_end done
+    pub leaves_absent : length numbers ≤ place → Leaves c before (number_for Absent) before
+    unfolding leave_end_in leave_end done
     leaves_absent h = leaves_as Absent (rw (right, right_size before size, not_there h) refl) refl
 
     -- the roll that a request has joined
@@ -174,28 +174,28 @@ module _ (c : Contender) (before : List ℕ) where
         (put_last (get_or before 0 0) numbers (number_of c) (count_in before) (sym (requests_length before)) room)
         ∙ sym bytes_joined
 
-    pub joins_done : {after : List ℕ} → count_in before ≤ place → count_in before < most_contenders
+    pub joins_done : {after : List ℕ} → length numbers ≤ place → count_in before < most_contenders
         → after ≡ set (put_of (count_in before) (number_of c) (written_of (count_in before) before)) 0 (count_in before + 1)
-        → Joins c before 0 after
-    unfolding number_for join_end_in join_end joined done
+        → Joins c before (number_for Done) after
+    unfolding join_end_in join_end joined done
     joins_done {after} h room e =
         let taken = lt-leb most_contenders (length roll) (omega (arith, room, counted)) in
         joins_as Done (rw (right, right_size before size, not_there h, taken) refl)
         (e ∙ written_joined room ∙ rw (right, not_there h, taken) refl)
 
     -- .. and that it has left
-    bytes_left : place < count_in before
+    bytes_left : place < length numbers
         → (count_in before - 1) ∷ pairs most_contenders (without place numbers) ≡ bytes_of (without place roll)
     unfolding bytes_of
     bytes_left h =
         let parts = length-append (take place roll) (drop (suc place) roll) in
         ap₂ (λ (n : ℕ) (l : List ℕ). n ∷ pairs most_contenders l)
-        (omega (arith, parts, length-take place roll, length-drop (suc place) roll, counted, h))
+        (omega (arith, parts, length-take place roll, length-drop (suc place) roll, counted, roll_length before, h))
         (sym (numbers_left before place))
 
-    pub leaves_done : {after : List ℕ} → place < count_in before
-        → after ≡ set (written_of place before) 0 (count_in before - 1) → Leaves c before 0 after
-    unfolding number_for leave_end_in leave_end left done
+    pub leaves_done : {after : List ℕ} → place < length numbers
+        → after ≡ set (written_of place before) 0 (count_in before - 1) → Leaves c before (number_for Done) after
+    unfolding leave_end_in leave_end left done
     leaves_done {after} h e =
         leaves_as Done (rw (right, right_size before size, is_there h) refl)
         (e ∙ bytes_left h ∙ rw (right, is_there h, place_found) refl)
@@ -203,8 +203,8 @@ module _ (c : Contender) (before : List ℕ) where
 -- ---- shown
 
 module _ (bytes : List ℕ) (word : ℕ) where
-  pub shows_other : (length bytes ≡ roll_bytes → ⊥) → Shows bytes word 100 word
-  unfolding number_for size_end_in word_after done
+  pub shows_other : (length bytes ≡ roll_bytes → ⊥) → Shows bytes word (number_for BadSize) word
+  unfolding size_end_in word_after done
   shows_other ne = record { ends = rw (other-size bytes ne) refl; told = rw (other-size bytes ne) refl }
 
   module _ (size : length bytes ≡ roll_bytes) where
@@ -212,15 +212,15 @@ module _ (bytes : List ℕ) (word : ℕ) where
     unfolding roll_in placed
     roll_none none = ap (λ (n : ℕ). map request_in (placed (request_at bytes) n)) none
 
-    pub shows_nobody : count_in bytes ≡ 0 → Shows bytes word 0 0
-    unfolding number_for size_end_in word_after done word_for
+    pub shows_nobody : count_in bytes ≡ 0 → Shows bytes word (number_for Done) 0
+    unfolding size_end_in word_after done word_for
     shows_nobody none = record {
       ends = rw (right_size bytes size) refl;
       told = rw (right_size bytes size) (sym (ap word_for (shown_none (roll_in bytes) (roll_none none))));
     }
 
-    pub shows_next : {n : ℕ} → Lowest (requests_in bytes) n → Shows bytes word 0 (0x8000 + n)
-    unfolding number_for size_end_in word_after done word_for
+    pub shows_next : {n : ℕ} → Lowest (requests_in bytes) n → Shows bytes word (number_for Done) (0x8000 + n)
+    unfolding size_end_in word_after done word_for
     shows_next {n} low = record {
       ends = rw (right_size bytes size) refl;
       told = rw (right_size bytes size) (sym (ap word_for (shown_lowest bytes low) ∙ whole n));

@@ -1,22 +1,24 @@
 -- What each loop keeps from turn to turn.
-use mathlib.Core.List.{List, [], ◌∷◌, ◌++◌, append-nil}
+use mathlib.Core.List.{List, [], ◌∷◌, ◌++◌}
 use mathlib.Core.Logic.{⊎_elim}
 use mathlib.Core.Path.{◌≡◌, refl, sym, ap, subst, ◌∙◌}
-use Prim.Native.Nat.{ℕ, zero, suc, ◌+◌, ◌-◌, ◌*◌, ◌/◌, ◌%◌, ◌≤◌, ◌<◌}
+use Prim.Native.Nat.{ℕ, zero, suc, min, ◌+◌, ◌-◌, ◌*◌, ◌/◌, ◌%◌, ◌≤◌, ◌<◌}
 use native.Mathlib.Omega.{arith}
+use borrow.Author.Count.{below_more}
 use borrow.Author.Tests.{le-leb, le-ltb, lt-leb, lt-ltb}
 use lib.Dec.{ltb}
-use lib.ListN.{get_or-append, get_or-eq_default, drop, drop_of_length-le, get_or, get_or-replicate, length}
+use lib.ListN.{get_or-append, get_or-eq_default, drop, get_or, get_or-replicate, length}
 use lib.ListN.{length-append, length-drop, length-replicate, length-set, length-take, replicate, set, take}
-use lib.Seq.{ext_get_or, get_or-append-add, get_or-set_other, get_or-set_same, get_or-take, length-take-le}
+use borrow.Rule.Slice.PartMut.{mid_len, mid_of, put_mid, same_len_mid}
+use Rattle.std.proofs.lemmas.Slice.{take-put_mid}
+use lib.Seq.{take_all, ext_get_or, get_or-append-add, get_or-set_other, get_or-set_same, get_or-take, length-take-le}
 use Rattle.line.specs.Choice.{pick}
 use Rattle.line.specs.Numbers.{most_contenders, roll_bytes}
-use Rattle.line.proofs.Filled.{Filled, all_filled, one_filled}
 use Rattle.line.proofs.Either.{below_or_not, same_or_not}
 use Rattle.rolls.specs.Kept.{count_in, pairs, request_at, requests_in}
 use Rattle.rolls.specs.Roll.{without}
 use Rattle.rolls.proofs.Bytes.{pair_high, pair_low, pairs_length, past_count, requests_at, requests_length}
-use Rattle.roll_keeper.specs.Keeping.{Lowest, cleared_of, from_place, left_at, put_of}
+use Rattle.roll_keeper.specs.Keeping.{Lowest, from_place, left_at, put_of}
 
 -- ---- lowest: the lowest of the first i
 
@@ -36,27 +38,26 @@ lowest_one ns best some e = record {
   low = λ j h. let first : j ≡ 0 = omega (arith, h) in omega (arith, e, ap (λ (k : ℕ). get_or ns k 0) first);
 }
 
-module _ {ns : List ℕ} {best i n : ℕ} (l : LowestOf ns best i) (inside : i < length ns) (is : n ≡ get_or ns i 0) where
-  -- one more, which is no lower or is lower
-  pub lowest_stays : best ≤ n → LowestOf ns best (i + 1)
-  lowest_stays le = record {
-    place = l.place;
-    before = omega (arith, l.before);
-    within = omega (arith, inside);
-    is = l.is;
-    low = λ j h. ⊎_elim (λ e. omega (arith, le, is, ap (λ (k : ℕ). get_or ns k 0) e))
-        (λ ne. l.low j (omega (arith, h, ne))) (same_or_not j i);
-  }
-
-  pub lowest_falls : n < best → LowestOf ns n (i + 1)
-  lowest_falls lt = record {
-    place = i;
-    before = omega arith;
-    within = omega (arith, inside);
-    is = sym is;
-    low = λ j h. ⊎_elim (λ e. omega (arith, is, ap (λ (k : ℕ). get_or ns k 0) e))
-        (λ ne. omega (arith, lt, l.low j (omega (arith, h, ne)))) (same_or_not j i);
-  }
+-- one more
+pub lowest_more : {ns : List ℕ} {best i n : ℕ} → LowestOf ns best i → i < length ns → n ≡ get_or ns i 0
+    → LowestOf ns (min best n) (i + 1)
+lowest_more {ns} {best} {i} {n} l inside is =
+    ⊎_elim
+    (λ (lt : n < best). subst (λ m. LowestOf ns m (i + 1)) (omega arith) (record {
+      place = i;
+      before = omega arith;
+      within = omega arith;
+      is = sym is;
+      low = below_more (λ j. n ≤ get_or ns j 0) i (λ j h. omega (arith, l.low j h)) (omega arith);
+    }))
+    (λ (le : best ≤ n). subst (λ m. LowestOf ns m (i + 1)) (omega arith) (record {
+      place = l.place;
+      before = omega (arith, l.before);
+      within = omega arith;
+      is = l.is;
+      low = below_more (λ j. best ≤ get_or ns j 0) i l.low (omega arith);
+    }))
+    (below_or_not n best)
 
 pub lowest_all : {ns : List ℕ} {best i : ℕ} → LowestOf ns best i → length ns ≤ i → Lowest ns best
 lowest_all {ns} {best} {i} l end = record {
@@ -108,12 +109,6 @@ left-at bytes gone i =
     ∙ sym (without_behind gone (requests_in bytes) i h))
     (below_or_not i gone)
 
-pub left_small : (bytes : List ℕ) (end gone i : ℕ) → left_at bytes end gone i < 8192
-left_small bytes end gone i =
-    ⊎_elim (λ h. rw (lt-ltb (from_place gone i) end h) (omega arith))
-    (λ h. rw (le-ltb (from_place gone i) end h) (omega arith))
-    (below_or_not (from_place gone i) end)
-
 -- no request is read from in front of its place
 pub from_on : (gone i : ℕ) → i ≤ from_place gone i
 from_on gone i = omega arith
@@ -126,15 +121,6 @@ pub record Spelled (ns first now : List ℕ) (i : ℕ) : Type 0 where
   pub low : (j : ℕ) → j < i → get_or now (2 * j + 1) 0 ≡ get_or ns j 0 % 256
   pub high : (j : ℕ) → j < i → get_or now (2 * j + 2) 0 ≡ get_or ns j 0 / 256
   pub kept : (m : ℕ) → 2 * i < m → get_or now m 0 ≡ get_or first m 0
-
-pub none_spelled : (ns first : List ℕ) → Spelled ns first first 0
-none_spelled ns first = record {
-  long = refl;
-  count = refl;
-  low = λ j h. absurd (omega (arith, h));
-  high = λ j h. absurd (omega (arith, h));
-  kept = λ m h. refl;
-}
 
 module _ (l : List ℕ) (p n : ℕ) where
   put_other : (m : ℕ) → (m ≡ 2 * p + 1 → ⊥) → (m ≡ 2 * p + 2 → ⊥) → get_or (put_of p n l) m 0 ≡ get_or l m 0
@@ -190,27 +176,23 @@ pub left_read : {ns first now : List ℕ} {i : ℕ} (gone : ℕ) → Spelled ns 
 left_read {ns} {first} {now} {i} gone s =
     rw (request_kept s (from_place gone i) (from_on gone i)) (left-at first gone i)
 
--- ---- clear: 0 from `from` up to `at`
+-- ---- put_without: 0 behind the last
 
-abbrev pub Cleared : ℕ → List ℕ → List ℕ → ℕ → Type 0
-Cleared from first now at = Filled (cleared_of from first) first now (replicate (length first - at) 0) at
+abbrev pub cleared_of : ℕ → List ℕ → List ℕ
+cleared_of from bytes = take from bytes ++ replicate (length bytes - from) 0
 
-pub none_cleared : (from : ℕ) (first : List ℕ) → Cleared from first first from
-none_cleared from first = record { split = refl; kept = refl; long = refl }
-
-pub one_cleared : (from : ℕ) {first now : List ℕ} {at : ℕ} → Cleared from first now at → at < length now
-    → Cleared from first (set now at 0) (at + 1)
-one_cleared from {first} {now} {at} c room =
-    let more : length first - at ≡ suc (length first - (at + 1)) = omega (arith, room, c.long) in
-    one_filled 0 (subst (λ (n : ℕ). Filled (cleared_of from first) first now (replicate n 0) at) more c) room
-
-pub all_cleared : (from : ℕ) {first now : List ℕ} {at : ℕ} → Cleared from first now at → length first ≤ at
-    → now ≡ cleared_of from first
-all_cleared from {first} {now} {at} c end =
-    let none : length first - at ≡ 0 = omega (arith, end) in
-    all_filled (subst (λ (n : ℕ). Filled (cleared_of from first) first now (replicate n 0) at) none c)
-    ∙ ap (λ (l : List ℕ). cleared_of from first ++ l) (drop_of_length-le first {i = at} end)
-    ∙ append-nil (cleared_of from first)
+-- what `fill` leaves of all bytes, where it has filled those from a place on
+pub filled_behind : (from : ℕ) (bytes ys : List ℕ) → length bytes ≡ roll_bytes → from ≤ roll_bytes
+    → ys ≡ replicate (length (mid_of from (roll_bytes - from) bytes)) 0
+    → put_mid from (roll_bytes - from) bytes ys ≡ cleared_of from bytes
+filled_behind from bytes ys size h e =
+    let mid = mid_len from roll_bytes bytes (omega (arith, size)) in
+    let many : length ys ≡ length (mid_of from (roll_bytes - from) bytes)
+    = ap (length {A = ℕ}) e ∙ length-replicate _ 0 in
+    let long = same_len_mid from (roll_bytes - from) bytes ys many in
+    sym (take_all roll_bytes (put_mid from (roll_bytes - from) bytes ys) (omega (arith, long, size)))
+    ∙ take-put_mid from (roll_bytes - from) bytes ys roll_bytes (omega (arith, many, mid, h)) (omega (arith, size, h))
+    ∙ ap (λ (l : List ℕ). take from bytes ++ l) (e ∙ ap (λ (n : ℕ). replicate n 0) (omega (arith, mid, size)))
 
 -- ---- put_without: where so many are written, 0 behind them is what stands for no request
 

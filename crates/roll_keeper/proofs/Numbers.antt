@@ -1,13 +1,14 @@
 -- A roll by the numbers of its requests: where one stands, and who has the lowest.
-use mathlib.Core.Bool.{true, false, false≢true}
+use mathlib.Core.Bool.{false≢true}
 use mathlib.Core.List.{List, [], ◌∷◌, ◌++◌, map, map-append}
 use mathlib.Core.Logic.{⊎_elim}
 use mathlib.Core.Path.{◌≡◌, refl, sym, ap, ap₂, ◌∙◌}
-use Prim.Native.Nat.{ℕ, zero, suc, ◌+◌, ◌≤◌, ◌<◌}
+use Prim.Native.Nat.{ℕ, suc, ◌≤◌, ◌<◌}
 use native.Mathlib.Omega.{arith}
 use borrow.Author.Tests.{eq-eqb, ne_eqb}
 use lib.Dec.{eqb}
 use lib.ListN.{drop, get_or, length, length-map, take}
+use Rattle.std.proofs.lemmas.List.{drop-map, take-map}
 use Rattle.line.specs.Places.{first_place}
 use Rattle.line.proofs.Either.{below_or_not, either, same_or_not}
 use Rattle.line.proofs.First.{first_holds}
@@ -75,23 +76,13 @@ pub numbers_joined : (bytes : List ℕ) (c : Contender)
 numbers_joined bytes c =
     map-append number_of (roll_in bytes) (c ∷ []) ∙ ap (λ (l : List ℕ). l ++ number_of c ∷ []) (numbers_are bytes)
 
-map_take : (n : ℕ) (l : List Contender) → map number_of (take n l) ≡ take n (map number_of l)
-map_take zero l = refl
-map_take (suc n) [] = refl
-map_take (suc n) (x ∷ xs) = ap (λ (l : List ℕ). number_of x ∷ l) (map_take n xs)
-
-map_drop : (n : ℕ) (l : List Contender) → map number_of (drop n l) ≡ drop n (map number_of l)
-map_drop zero l = refl
-map_drop (suc n) [] = refl
-map_drop (suc n) (x ∷ xs) = map_drop n xs
-
 pub numbers_left : (bytes : List ℕ) (place : ℕ)
     → map number_of (without place (roll_in bytes)) ≡ without place (requests_in bytes)
 numbers_left bytes place =
     map-append number_of (take place (roll_in bytes)) (drop (suc place) (roll_in bytes))
     ∙ ap₂ (λ (x y : List ℕ). x ++ y)
-    (map_take place (roll_in bytes) ∙ ap (take place) (numbers_are bytes))
-    (map_drop (suc place) (roll_in bytes) ∙ ap (drop (suc place)) (numbers_are bytes))
+    (sym (take-map number_of place (roll_in bytes)) ∙ ap (take place) (numbers_are bytes))
+    (sym (drop-map number_of (suc place) (roll_in bytes)) ∙ ap (drop (suc place)) (numbers_are bytes))
 
 -- ---- who is shown
 

@@ -3,12 +3,12 @@
 // No public function has a `requires`, and nothing is assumed.
 #![tactic(auto)]
 
-ghost use Rattle.std.specs.Prelude.{◌≡◌, ◌<◌, ◌≤◌, length};
-ghost use Rattle.line.specs.Numbers.{most_contenders, roll_bytes};
-ghost use Rattle.contenders.specs.Contest.{in_range};
-ghost use Rattle.rolls.specs.Kept.{Begins, Joins, Leaves, Shows, asked, count_in, request_at, requests_in};
+ghost use Rattle.std.specs.Prelude.{◌≡◌, ◌<◌, ◌≤◌, MatchOption};
+ghost use Rattle.line.specs.Numbers.{most_contenders};
+ghost use Rattle.contest.specs.Deciding.{Found};
+ghost use Rattle.rolls.specs.Kept.{Begins, Joins, Leaves, Shows, asked, count_in, number_for, request_at, requests_in};
 ghost use Rattle.rolls.specs.Relied.{Relied};
-ghost use Rattle.roll_keeper.specs.Keeping.{Lowest, cleared_of, number_place, left_at, put_of, written_of};
+ghost use Rattle.roll_keeper.specs.Keeping.{Asked, Lowest, change_of, left_at, number_place, put_of, refused_as, written_of};
 
 use line::numbers::{
     BAD_SIZE, HIGHEST_ADDRESS, MOST_CONTENDERS, REFUSED_CONTENDER_RANGE, REFUSED_ROLL_ABSENT,
@@ -18,70 +18,99 @@ use line::numbers::{
 // Above the number of who is shown: somebody is.
 const SOMEBODY: u32 = 0x8000;
 
-#[tactic(auto, unfolding(contenders::specs::Contest::in_range))]
-fn in_range(bit: u32, address: u32) -> bool
-    ensures { result ≡ in_range (asked bit address) }
-{
-    (bit <= 1) & (address <= HIGHEST_ADDRESS as u32)
+// Why a call is refused.
+#[derive(Clone, Copy, Debug, PartialEq, Eq)]
+enum RollError {
+    OutOfRange,
+    Size,
+    Alike,
+    Full,
+    Absent,
 }
 
-fn count(roll: &[u8]) -> usize
-    requires { length roll.now ≡ roll_bytes }
+#[tactic(auto, unfolding(rolls::specs::Kept::number_for))]
+impl From<RollError> for u32 {
+    ghost from_gives = { λ error number. number ≡ number_for (refused_as error) };
+
+    fn from(error: RollError) -> u32 {
+        match error {
+            RollError::OutOfRange => u32::from(REFUSED_CONTENDER_RANGE),
+            RollError::Size => BAD_SIZE,
+            RollError::Alike => u32::from(REFUSED_ROLL_ALIKE),
+            RollError::Full => u32::from(REFUSED_ROLL_FULL),
+            RollError::Absent => u32::from(REFUSED_ROLL_ABSENT),
+        }
+    }
+}
+
+// How a call ended, as a host in C is told it.
+#[tactic(auto, unfolding(rolls::specs::Kept::number_for))]
+fn told(end: Result<(), RollError>) -> u32
+    ensures { result ≡ number_for (change_of end) }
+{
+    match end {
+        Ok(()) => 0,
+        Err(error) => u32::from(error),
+    }
+}
+
+// A request as its number.
+#[tactic(auto, unfolding(contenders::specs::Contest::in_range, contenders::specs::Contest::number_of))]
+fn asked(bit: u32, address: u32) -> Result<u16, RollError>
+    ensures { Asked (asked bit address) result }
+{
+    if bit <= 1 && address <= u32::from(HIGHEST_ADDRESS) {
+        Ok((bit * 4096 + address) as u16)
+    } else {
+        Err(RollError::OutOfRange)
+    }
+}
+
+fn count(roll: &[u8; ROLL_BYTES]) -> usize
     ensures { result ≡ count_in roll.now }
 {
-    let first = roll[0] as usize;
-    if MOST_CONTENDERS < first {
-        return MOST_CONTENDERS;
-    }
-    first
+    usize::from(roll[0]).min(MOST_CONTENDERS)
 }
 
 // The request at a place, as its number.
-fn request(roll: &[u8], place: usize) -> u32
-    requires { (length roll.now ≡ roll_bytes) × (place < most_contenders) }
+fn request(roll: &[u8; ROLL_BYTES], place: usize) -> u16
+    requires { place < most_contenders }
     ensures { result ≡ request_at roll.now place }
 {
-    let low = roll[2 * place + 1] as u32;
-    let high = roll[2 * place + 2] as u32;
+    let low = u16::from(roll[2 * place + 1]);
+    let high = u16::from(roll[2 * place + 2]);
     (low + high * 256) % 8192
 }
 
-// The first place of a request, the count where it is not there.
-fn place_of(roll: &[u8], number: u32) -> usize
-    requires { length roll.now ≡ roll_bytes }
-    ensures { result ≡ number_place number (requests_in roll.now) }
+// The first place of a request.
+fn place_of(roll: &[u8; ROLL_BYTES], number: u16) -> Option<usize>
+    ensures { Found (requests_in roll.now) (number_place number (requests_in roll.now)) result }
 {
-    let end = count(roll);
-    let mut i: usize = 0;
-    while i < end {
-        if request(roll, i) == number {
-            return i;
+    for place in 0..count(roll) {
+        if request(roll, place) == number {
+            return Some(place);
         }
-        i += 1;
     }
-    i
+    None
 }
 
 // The lowest number of all.
-fn lowest(roll: &[u8]) -> u32
-    requires { (length roll.now ≡ roll_bytes) × (0 < count_in roll.now) }
-    ensures { Lowest (requests_in roll.now) result }
+fn lowest(roll: &[u8; ROLL_BYTES]) -> Option<u16>
+    ensures { MatchOption result (count_in roll.now ≡ 0) (λ n. Lowest (requests_in roll.now) n) }
 {
     let end = count(roll);
-    let mut best = request(roll, 0);
-    let mut i: usize = 1;
-    while i < end {
-        let number = request(roll, i);
-        if number < best {
-            best = number;
-        }
-        i += 1;
+    if end == 0 {
+        return None;
     }
-    best
+    let mut lowest = request(roll, 0);
+    for place in 1..end {
+        lowest = lowest.min(request(roll, place));
+    }
+    Some(lowest)
 }
 
-fn put_request(roll: &mut [u8], place: usize, number: u32)
-    requires { (length roll.old ≡ roll_bytes) × (place < most_contenders) × (number < 8192) }
+fn put_request(roll: &mut [u8; ROLL_BYTES], place: usize, number: u16)
+    requires { place < most_contenders }
     ensures { roll.new ≡ put_of place number roll.old }
 {
     roll[2 * place + 1] = (number % 256) as u8;
@@ -89,123 +118,123 @@ fn put_request(roll: &mut [u8], place: usize, number: u32)
 }
 
 // The request at a place of the roll without the one at `gone`, where the others close up; 0 past the last.
-fn request_left(roll: &[u8], end: usize, gone: usize, place: usize) -> u32
-    requires { (length roll.now ≡ roll_bytes) × (end ≤ most_contenders) × (place < most_contenders) }
+fn request_left(roll: &[u8; ROLL_BYTES], end: usize, gone: usize, place: usize) -> u16
+    requires { (end ≤ most_contenders) × (place < most_contenders) }
     ensures { result ≡ left_at roll.now end gone place }
 {
-    let from = place + (gone <= place) as usize;
-    if from < end {
-        return request(roll, from);
-    }
-    0
+    let from = place + usize::from(gone <= place);
+    if from < end { request(roll, from) } else { 0 }
 }
 
-// Writes 0 from a place on.
-fn clear(roll: &mut [u8], from: usize)
-    ensures { roll.new ≡ cleared_of from roll.old }
-{
-    let end = roll.len();
-    let mut at = from;
-    while at < end {
-        roll[at] = 0;
-        at += 1;
-    }
-}
-
-// Writes all requests anew without that at `gone`; the count stays as it was. What is read stands no further in front
-// than what is written.
-fn put_without(roll: &mut [u8], gone: usize)
-    requires { length roll.old ≡ roll_bytes }
+// Writes all requests anew without that at `gone`, and 0 behind them; the count stays as it was. What is read stands no
+// further in front than what is written.
+fn put_without(roll: &mut [u8; ROLL_BYTES], gone: usize)
     ensures { roll.new ≡ written_of gone roll.old }
 {
     let end = count(roll);
-    let mut i: usize = 0;
-    while i < end {
-        let number = request_left(roll, end, gone, i);
-        put_request(roll, i, number);
-        i += 1;
+    for place in 0..end {
+        let number = request_left(roll, end, gone, place);
+        put_request(roll, place, number);
     }
-    clear(roll, 2 * end + 1);
+    roll[2 * end + 1..].fill(0);
 }
 
-// An empty roll: 0, or 100.
-#[unsafe(no_mangle)]
-pub extern "C" fn iebus_roll_begin(roll: &mut [u8]) -> u32
-    ensures whole { Begins roll.old result roll.new }
-    ensures relied { Relied }
+fn begin(roll: &mut [u8]) -> Result<(), RollError>
+    ensures { Begins roll.old (number_for (change_of result)) roll.new }
 {
-    if roll.len() != ROLL_BYTES {
-        return BAD_SIZE;
-    }
-    clear(roll, 0);
-    0
+    let Some(roll) = roll.as_mut_array::<ROLL_BYTES>() else {
+        return Err(RollError::Size);
+    };
+    roll.fill(0);
+    Ok(())
 }
 
-// A request joins the roll, as its last: 0, or 14, 100, 22 or 21.
-#[unsafe(no_mangle)]
-#[tactic(auto, unfolding(contenders::specs::Contest::number_of))]
-pub extern "C" fn iebus_roll_join(roll: &mut [u8], bit: u32, address: u32) -> u32
-    ensures whole { Joins (asked bit address) roll.old result roll.new }
-    ensures relied { Relied }
+fn join(roll: &mut [u8], bit: u32, address: u32) -> Result<(), RollError>
+    ensures { Joins (asked bit address) roll.old (number_for (change_of result)) roll.new }
 {
-    if !in_range(bit, address) {
-        return REFUSED_CONTENDER_RANGE as u32;
+    let number = asked(bit, address)?;
+    let Some(roll) = roll.as_mut_array::<ROLL_BYTES>() else {
+        return Err(RollError::Size);
+    };
+    if place_of(roll, number).is_some() {
+        return Err(RollError::Alike);
     }
-    if roll.len() != ROLL_BYTES {
-        return BAD_SIZE;
-    }
-    let number = bit * 4096 + address;
     let end = count(roll);
-    if place_of(roll, number) < end {
-        return REFUSED_ROLL_ALIKE as u32;
-    }
     if MOST_CONTENDERS <= end {
-        return REFUSED_ROLL_FULL as u32;
+        return Err(RollError::Full);
     }
     // nobody goes: what the requests and the places past them hold is made plain
     put_without(roll, end);
     put_request(roll, end, number);
     roll[0] = (end + 1) as u8;
-    0
+    Ok(())
+}
+
+fn leave(roll: &mut [u8], bit: u32, address: u32) -> Result<(), RollError>
+    ensures { Leaves (asked bit address) roll.old (number_for (change_of result)) roll.new }
+{
+    let number = asked(bit, address)?;
+    let Some(roll) = roll.as_mut_array::<ROLL_BYTES>() else {
+        return Err(RollError::Size);
+    };
+    let Some(place) = place_of(roll, number) else {
+        return Err(RollError::Absent);
+    };
+    let end = count(roll);
+    put_without(roll, place);
+    roll[0] = (end - 1) as u8;
+    Ok(())
+}
+
+fn show(roll: &[u8], shown: &mut u32) -> Result<(), RollError>
+    ensures { Shows roll.now shown.old (number_for (change_of result)) shown.new }
+{
+    let Some(roll) = roll.as_array::<ROLL_BYTES>() else {
+        return Err(RollError::Size);
+    };
+    *shown = match lowest(roll) {
+        Some(number) => SOMEBODY + u32::from(number),
+        None => 0,
+    };
+    Ok(())
+}
+
+// An empty roll: 0, or 100.
+#[unsafe(no_mangle)]
+#[tactic(auto, using(rolls::proofs::Relied::relied))]
+pub extern "C" fn iebus_roll_begin(roll: &mut [u8]) -> u32
+    ensures whole { Begins roll.old result roll.new }
+    ensures relied { Relied }
+{
+    told(begin(roll))
+}
+
+// A request joins the roll, as its last: 0, or 14, 100, 22 or 21.
+#[unsafe(no_mangle)]
+#[tactic(auto, using(rolls::proofs::Relied::relied))]
+pub extern "C" fn iebus_roll_join(roll: &mut [u8], bit: u32, address: u32) -> u32
+    ensures whole { Joins (asked bit address) roll.old result roll.new }
+    ensures relied { Relied }
+{
+    told(join(roll, bit, address))
 }
 
 // A request leaves the roll, and the others stay in their order: 0, or 14, 100 or 23.
 #[unsafe(no_mangle)]
-#[tactic(auto, unfolding(contenders::specs::Contest::number_of))]
+#[tactic(auto, using(rolls::proofs::Relied::relied))]
 pub extern "C" fn iebus_roll_leave(roll: &mut [u8], bit: u32, address: u32) -> u32
     ensures whole { Leaves (asked bit address) roll.old result roll.new }
     ensures relied { Relied }
 {
-    if !in_range(bit, address) {
-        return REFUSED_CONTENDER_RANGE as u32;
-    }
-    if roll.len() != ROLL_BYTES {
-        return BAD_SIZE;
-    }
-    let number = bit * 4096 + address;
-    let end = count(roll);
-    let place = place_of(roll, number);
-    if end <= place {
-        return REFUSED_ROLL_ABSENT as u32;
-    }
-    put_without(roll, place);
-    roll[0] = (end - 1) as u8;
-    0
+    told(leave(roll, bit, address))
 }
 
 // Who would win the line, told in `shown`: 0, or 100.
 #[unsafe(no_mangle)]
+#[tactic(auto, using(rolls::proofs::Relied::relied))]
 pub extern "C" fn iebus_roll_shown(roll: &[u8], shown: &mut u32) -> u32
     ensures whole { Shows roll.now shown.old result shown.new }
     ensures relied { Relied }
 {
-    if roll.len() != ROLL_BYTES {
-        return BAD_SIZE;
-    }
-    if count(roll) == 0 {
-        *shown = 0;
-        return 0;
-    }
-    *shown = SOMEBODY + lowest(roll);
-    0
+    told(show(roll, shown))
 }

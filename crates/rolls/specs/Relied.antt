@@ -1,11 +1,10 @@
 -- What a display relies on: of every roll, how a call ends and what it leaves, told in the words of ticket 10; of all
 -- bytes, that a call on them is one on their roll; of every list of calls, who is shown, and that the bytes keep it.
 use mathlib.Core.List.{List, [], ◌∷◌, ◌++◌, foldl}
-use Rattle.std.specs.Prelude.{◌≡◌, ℕ, ◌/◌, ◌%◌, ◌<◌, ◌≤◌, get_or, length}
+use Rattle.std.specs.Prelude.{Ok, ◌≡◌, ℕ, ◌/◌, ◌%◌, ◌<◌, ◌≤◌, get_or, length}
 use Rattle.line.specs.Numbers.{most_contenders, roll_bytes}
 use Rattle.contenders.specs.Contest.{OccursAgain, Ranged, Wins, contest_of, nobody}
 use Rattle.contenders.specs.declared.Contender.{Contender}
-use Rattle.contenders.specs.declared.Outcome.TheVariants.{Winner}
 use Rattle.rolls.specs.Kept.{bytes_after, bytes_of, join_end_in, leave_end_in, roll_in, size_end_in, word_after, word_for}
 use Rattle.rolls.specs.Roll.{Absent, Alike, BadSize, Call, Done, Full, Next, Nobody, OutOfRange, Shown, begin}
 use Rattle.rolls.specs.Roll.{join, join_end, joined, leave, leave_end, left, roll_of, shown_of}
@@ -65,7 +64,7 @@ pub record Tells (c : Contender) : Type 0 where
 -- "the contest run afresh over the roll", with any list lent for the slots in which the others lose
 pub record Won (roll : List Contender) (numbers : List ℕ) (shown : Shown) : Type 0 where
   pub place : ℕ
-  pub contest : contest_of roll numbers ≡ Winner place
+  pub contest : contest_of roll numbers ≡ Ok place
   pub wins : Wins roll place
   pub is : shown ≡ Next (get_or roll place nobody)
 

@@ -1,24 +1,13 @@
-use Prim.Native.Nat.{◌-◌}
-use mathlib.Core.Bool.{not}
-use mathlib.Core.Path.{sym, ap, ◌∙◌}
+use Rattle.std.proofs.Common.{rules}
+use borrow.Author.Tests.{tests}
+use Rattle.std.proofs.lemmas.Iterator.{YieldsList-from_slice}
+use Rattle.std.proofs.lemmas.Iterator.Search.{position_from_yields_List}
 use Rattle.contenders.specs.Contest.{out_of_range}
-use Rattle.contest.proofs.Loops.{sought_none, sought_one, sought_here, sought_all}
+use Rattle.contest.proofs.Loops.{found_position}
 use Rattle.contest.proofs.first_out.Goals as goal
-
-pub loop-i-init : goal.loop-i-init
-loop-i-init c =
-    sought_none out_of_range c.args.all
-
-pub returns-then-not-in_range : goal.returns-then-not-in_range
-returns-then-not-in_range c =
-    sought_here out_of_range _ c.loop-i.invariant
-    c.loop-i-test.true (sym (ap not c.in_range.ensures) ∙ c.if-not-in_range.true-raw)
-
-pub loop-i-preserved : goal.loop-i-preserved
-loop-i-preserved c =
-    sought_one out_of_range _ c.loop-i.invariant
-    c.loop-i-test.true (sym (ap not c.in_range.ensures) ∙ c.if-not-in_range.false-raw)
 
 pub returns : goal.returns
 returns c =
-    sought_all out_of_range _ c.loop-i.invariant c.loop-i-test.false
+    found_position out_of_range c.args.contenders.now
+    (position_from_yields_List out_of_range _ _ c.position.result c.position.ensures.ran
+    (YieldsList-from_slice c.args.contenders.now cc) (λ x b q k. search (rules, tests)))

@@ -1,11 +1,6 @@
 use Rattle.line.specs.Parity.{level_of}
-use Rattle.contest.proofs.Loops.{compared_none, compared_one, compared_here, compared_all}
+use Rattle.contest.proofs.Loops.{compared_one, compared_here, compared_all}
 use Rattle.contest.proofs.lost_in.Goals as goal
-
-pub loop-left-init : goal.loop-left-init
-unfolding level_of
-loop-left-init c =
-    compared_none _ _
 
 pub returns-then-number-left : goal.returns-then-number-left
 unfolding level_of

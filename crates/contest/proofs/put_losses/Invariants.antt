@@ -1,9 +1,10 @@
-use Prim.Native.Nat.{◌-◌}
-use Rattle.contest.proofs.Loops.{Written}
+use lib.ListN.{drop}
+use Rattle.line.proofs.Filled.{Filled}
+use Rattle.contest.specs.Deciding.{differences}
 use Rattle.contest.proofs.put_losses.Given as goal
 
-abbrev pub invariant-loop-i : goal.invariant-loop-i
-invariant-loop-i l = Written l.winner l.all l.initial.lost l.lost l.i
-
-abbrev pub decreases-loop-i : goal.decreases-loop-i
-decreases-loop-i l = l.end - l.i
+-- so many slots have been written
+abbrev pub invariant-loop-place : goal.invariant-loop-place
+invariant-loop-place l =
+    Filled (differences l.winner l.contenders) l.initial.lost l.lost
+    (differences l.winner (drop l.place l.contenders)) l.place

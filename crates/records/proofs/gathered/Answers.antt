@@ -4,14 +4,14 @@ use Rattle.records.specs.Gathered.{with_record}
 use Rattle.records.proofs.Lists.{none_gathered, one_gathered, all_gathered}
 use Rattle.records.proofs.gathered.Goals as goal
 
-pub loop-i-init : goal.loop-i-init
-loop-i-init c = c.new-all.ensures ∙ none_gathered c.args.records.now
+pub loop-place-init : goal.loop-place-init
+loop-place-init c = c.new-all.ensures ∙ none_gathered c.args.records.now
 
-pub loop-i-preserved : goal.loop-i-preserved
-loop-i-preserved c =
+pub loop-place-preserved : goal.loop-place-preserved
+loop-place-preserved c =
     c.with_record-all.ensures
-    ∙ ap (λ (all : Contenders). with_record all c.args.records.now c.loop-i.i) c.loop-i.invariant
-    ∙ one_gathered c.args.records.now c.loop-i.i (omega arith)
+    ∙ ap (λ (all : Contenders). with_record all c.args.records.now c.loop-place.place) c.loop-place.invariant
+    ∙ one_gathered c.args.records.now c.loop-place.place (omega arith)
 
 pub returns : goal.returns
-returns c = c.loop-i.invariant ∙ all_gathered c.args.records.now c.loop-i.i (omega arith)
+returns c = c.loop-place.invariant ∙ all_gathered c.args.records.now c.loop-place.place (omega arith)

@@ -1,10 +1,7 @@
-use Prim.Native.Nat.{◌-◌}
 use Rattle.rolls.specs.Kept.{requests_in}
 use Rattle.roll_keeper.proofs.Loops.{LowestOf}
 use Rattle.roll_keeper.proofs.lowest.Given as goal
 
-abbrev pub invariant-loop-i : goal.invariant-loop-i
-invariant-loop-i l = LowestOf (requests_in l.roll) l.best l.i
-
-abbrev pub decreases-loop-i : goal.decreases-loop-i
-decreases-loop-i l = l.end - l.i
+-- the lowest of those before the place
+abbrev pub invariant-loop-place : goal.invariant-loop-place
+invariant-loop-place l = LowestOf (requests_in l.roll) l.lowest l.place
