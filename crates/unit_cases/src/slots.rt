@@ -34,7 +34,7 @@ pub(crate) fn slot_word(slot: Slot) -> u32 {
         Slot::Level(false) => SLOT_LOW,
         Slot::Level(true) => SLOT_HIGH,
         Slot::Start => SLOT_START,
-        _ => SLOT_IDLE,
+        Slot::Idle => SLOT_IDLE,
     }
 }
 
