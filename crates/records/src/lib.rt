@@ -10,7 +10,7 @@ ghost use Rattle.records.specs.Gathered.{with_record, gathered_of};
 use contenders::{Contender, Contenders, ContestError};
 use line::numbers::MOST_CONTENDERS;
 
-// One record, handed on as two numbers.
+// One record, handed on as two numbers: "thin functions read one record and call covered code on two numbers".
 fn with_record(all: Contenders, records: &[Contender], place: usize) -> Contenders
     requires { place < length records.now }
     ensures { result ≡ with_record all records.now place }

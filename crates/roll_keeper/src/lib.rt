@@ -54,7 +54,7 @@ fn told(end: Result<(), RollError>) -> u32
     }
 }
 
-// A request as its number.
+// A request as its number. C gives any two numbers, so this is not the contest's test of a contender.
 #[tactic(auto, unfolding(contenders::specs::Contest::in_range, contenders::specs::Contest::number_of))]
 fn asked(bit: u32, address: u32) -> Result<u16, RollError>
     ensures { Asked (asked bit address) result }
@@ -77,9 +77,7 @@ fn request(roll: &[u8; ROLL_BYTES], place: usize) -> u16
     requires { place < most_contenders }
     ensures { result ≡ request_at roll.now place }
 {
-    let low = u16::from(roll[2 * place + 1]);
-    let high = u16::from(roll[2 * place + 2]);
-    (low + high * 256) % 8192
+    u16::from_le_bytes([roll[2 * place + 1], roll[2 * place + 2]]) % 8192
 }
 
 // The first place of a request.
@@ -113,8 +111,9 @@ fn put_request(roll: &mut [u8; ROLL_BYTES], place: usize, number: u16)
     requires { place < most_contenders }
     ensures { roll.new ≡ put_of place number roll.old }
 {
-    roll[2 * place + 1] = (number % 256) as u8;
-    roll[2 * place + 2] = (number / 256) as u8;
+    let [low, high] = number.to_le_bytes();
+    roll[2 * place + 1] = low;
+    roll[2 * place + 2] = high;
 }
 
 // The request at a place of the roll without the one at `gone`, where the others close up; 0 past the last.
