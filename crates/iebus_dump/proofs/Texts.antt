@@ -13,10 +13,10 @@ use lib.Seq.{append_snoc, take_all, take-take}
 use Rattle.line.specs.Choice.{bit_of, pick}
 use Rattle.line.specs.Numbers.{slot_start}
 use Rattle.line.proofs.Either.{either}
-use Rattle.logs.specs.declared.LogRead.{LogRead}
-use Rattle.logs.specs.declared.LogRead.TheVariants.{Frames, NoSlot}
+use Rattle.std.specs.Prelude.{Ok, Err}
+use Rattle.logs.specs.declared.LogError.TheVariants.{NoSlot}
 use Rattle.logs.specs.Frames.{frames_of, stray_in}
-use Rattle.logs.specs.Log.{ReadLog, end_of, written_of}
+use Rattle.logs.specs.Log.{LogRead, ReadLog, end_of, written_of}
 use Rattle.logs.specs.Relied.{Relied, starts_in}
 use Rattle.logs.specs.Records.{Record, first_word, record_words, records_of}
 use Rattle.logs.specs.Records.{words_of as recordsWords}
@@ -128,7 +128,7 @@ pub slots_length : (input : List ℕ) → length (slots_of input) ≤ most_words
 slots_length input = omega (arith, slots_count input)
 
 read_as : (room : ℕ) (slots : List ℕ) (stray : Bool) → length slots ≤ room → stray_in slots ≡ stray
-    → end_of room slots ≡ pick stray NoSlot (Frames (length (frames_of slots)))
+    → end_of room slots ≡ pick stray (Err NoSlot) (Ok (length (frames_of slots)))
 unfolding end_of
 read_as room slots stray fits is = simp (le-ltb _ _ fits, is)
 
@@ -141,7 +141,7 @@ unfolding whole_of
 whole_as long input stray is = simp is
 
 last_right : (input : List ℕ) (count : ℕ)
-    → last_at (last_by (Frames count) (length input)) ≡ last_text (last_of (length input))
+    → last_at (last_by (Ok count) (length input)) ≡ last_text (last_of (length input))
 unfolding last_at last_by last_of last_text
 last_right input count = by_tests (ltb (most_words * 4) (length input)) (eqb (length input % 4) 0) where
   by_tests : (more whole : Bool)
@@ -152,7 +152,7 @@ last_right input count = by_tests (ltb (most_words * 4) (length input)) (eqb (le
 
 -- where the log was read, a last line has a number over 0, so that all the words have their lines
 frames_shown : (slots : List ℕ) (bytes count : ℕ)
-    → take (shown_by (last_by (Frames count) bytes) (length slots) - 0) slots ≡ slots
+    → take (shown_by (last_by (Ok count) bytes) (length slots) - 0) slots ≡ slots
 unfolding last_by
 frames_shown slots bytes count = by_tests (ltb (most_words * 4) bytes) (eqb (bytes % 4) 0) where
   whole : take (length slots - 0) slots ≡ slots
@@ -201,7 +201,7 @@ frames_right {long} relied input {before} {after} {read} reading room stray =
     let slots : List ℕ = slots_of input in
     let records : List Record = records_of long slots in
     let count : ℕ = length (frames_of slots) in
-    let is : read ≡ Frames count =
+    let is : read ≡ Ok count =
     reading.ends ∙ read_as (length before) slots false (omega (arith, slots_length input)) stray
     in
     let written : after ≡ recordsWords records ++ drop (length (recordsWords records)) before =
@@ -209,10 +209,10 @@ frames_right {long} relied input {before} {after} {read} reading room stray =
     ∙ ap (λ (r : LogRead). written_of long r slots ++ drop (length (written_of long r slots)) before) is
     in
     ap (λ (r : LogRead). text_of r input after) is
-    ∙ ap (λ (l : List ℕ). header ++ lines_in 0 l after ++ last_at (last_by (Frames count) (length input)))
+    ∙ ap (λ (l : List ℕ). header ++ lines_in 0 l after ++ last_at (last_by (Ok count) (length input)))
     (frames_shown slots (length input) count)
-    ∙ ap (λ (l : List ℕ). header ++ lines_in 0 slots l ++ last_at (last_by (Frames count) (length input))) written
-    ∙ ap (λ (l : List ℕ). header ++ l ++ last_at (last_by (Frames count) (length input)))
+    ∙ ap (λ (l : List ℕ). header ++ lines_in 0 slots l ++ last_at (last_by (Ok count) (length input))) written
+    ∙ ap (λ (l : List ℕ). header ++ l ++ last_at (last_by (Ok count) (length input)))
     (lines_right slots _ records 0 (relied_sound relied slots) (relied.one_each slots))
     ∙ ap (λ (l : List ℕ). header ++ lines_of (starts_from 0 slots) records ++ l) (last_right input count)
     ∙ whole_as long input false stray

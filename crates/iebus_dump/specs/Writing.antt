@@ -1,9 +1,8 @@
 -- What private functions cite: a frame's line by the words of its record.
-use Rattle.std.specs.Prelude.{Bool, List, [], ◌∷◌, ◌++◌, ℕ, suc, ◌+◌, ◌*◌, ◌/◌, ◌%◌, eqb, ltb, length, take, drop, get_or}
+use Rattle.std.specs.Prelude.{Bool, List, [], ◌∷◌, ◌++◌, ℕ, suc, ◌+◌, ◌*◌, ◌/◌, ◌%◌, Ok, Err, eqb, ltb, length, take, drop, get_or}
 use Rattle.line.specs.Choice.{pick}
 use Rattle.line.specs.Numbers.{slot_start}
-use Rattle.logs.specs.declared.LogRead.{LogRead}
-use Rattle.logs.specs.declared.LogRead.TheVariants.{Frames, ShortList, NoSlot}
+use Rattle.logs.specs.Log.{LogRead}
 use Rattle.logs.specs.Relied.{fields_at}
 use Rattle.text.specs.Hex.{digit_of}
 use Rattle.text.specs.declared.last.Last.TheVariants.{Short, More}
@@ -71,9 +70,8 @@ lines_in place (w ∷ ws) words = slot_line place w words ++ lines_in (suc place
 
 -- the number of the last line, where a log was read so
 unfoldable pub last_by : LogRead → ℕ → ℕ
-last_by (Frames count) bytes = pick (ltb (most_words * 4) bytes) 1 (pick (eqb (bytes % 4) 0) 3 2)
-last_by ShortList bytes = 0
-last_by NoSlot bytes = 0
+last_by (Ok count) bytes = pick (ltb (most_words * 4) bytes) 1 (pick (eqb (bytes % 4) 0) 3 2)
+last_by (Err e) bytes = 0
 
 -- the text of the last line that has this number
 unfoldable pub last_at : ℕ → List ℕ

@@ -4,7 +4,7 @@ ghost use Rattle.pieces.specs.Pieces.{Put};
 ghost use Rattle.iebus_dump.specs.Writing.{last_by, shown_by, text_by};
 
 use crate::lines::put_lines;
-use logs::LogRead;
+use logs::LogError;
 use pieces::put;
 use words::WORD_BYTES;
 
@@ -13,11 +13,11 @@ const MOST_BYTES: usize = 65536;
 
 // Which last line is printed, where a log was read so: `refused 16`, `more`, `short` or none.
 #[tactic(auto, unfolding(crate::specs::Writing::last_by))]
-pub(crate) fn last_number(read: LogRead, bytes: usize) -> usize
+pub(crate) fn last_number(read: Result<usize, LogError>, bytes: usize) -> usize
     ensures { (result ≡ last_by read bytes) × (result < 4) }
 {
     match read {
-        LogRead::Frames(_) => {
+        Ok(_) => {
             if MOST_BYTES < bytes {
                 return 1;
             }
@@ -26,8 +26,7 @@ pub(crate) fn last_number(read: LogRead, bytes: usize) -> usize
             }
             3
         }
-        LogRead::ShortList => 0,
-        LogRead::NoSlot => 0,
+        Err(_) => 0,
     }
 }
 

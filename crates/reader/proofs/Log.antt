@@ -7,12 +7,13 @@ use native.Mathlib.Omega.{arith}
 use borrow.Author.Tests.{eq-eqb, le-ltb, lt-ltb}
 use lib.ListN.{drop, drop_of_length-le, get_or, length, length-drop, take}
 use lib.Seq.{drop-drop, length-take-le, take_at}
+use Rattle.std.specs.Prelude.{Err, Ok}
 use Rattle.line.proofs.Filled.{Filled, all_filled, nothing_filled}
 use Rattle.line.proofs.Places.{cut}
 use Rattle.line.specs.Numbers.{slot_start}
 use Rattle.logs.proofs.Frames.{levels_low}
 use Rattle.logs.proofs.Readings.{record_fits}
-use Rattle.logs.specs.declared.LogRead.TheVariants.{Frames, NoSlot, ShortList}
+use Rattle.logs.specs.declared.LogError.TheVariants.{NoSlot, ShortList}
 use Rattle.logs.specs.Frames.{Low, frames_of, stray_in}
 use Rattle.logs.specs.Log.{ReadLog, end_of, written_of}
 use Rattle.logs.specs.Readings.{read_of}
@@ -160,11 +161,11 @@ so_far_all {long} {slots} {first} {records} {frames} {next} {entry} {at} s over 
 -- ---- read_log
 
 module _ (long : Bool) (slots before : List ℕ) where
-  pub log_short : length before < length slots → ReadLog long slots before ShortList before
+  pub log_short : length before < length slots → ReadLog long slots before (Err ShortList) before
   unfolding end_of written_of
   log_short short = record { ends = simp (lt-ltb (length before) (length slots) short); written = refl }
 
-  pub log_stray : length slots ≤ length before → stray_in slots ≡ true → ReadLog long slots before NoSlot before
+  pub log_stray : length slots ≤ length before → stray_in slots ≡ true → ReadLog long slots before (Err NoSlot) before
   unfolding end_of written_of
   log_stray room stray =
       record { ends = simp (le-ltb (length before) (length slots) room, stray); written = refl }
@@ -172,7 +173,7 @@ module _ (long : Bool) (slots before : List ℕ) where
   pub log_read : length slots ≤ length before → stray_in slots ≡ false → {count : ℕ} {after : List ℕ}
       → count ≡ length (frames_of slots)
       → after ≡ words_of (records_of long slots) ++ drop (length (words_of (records_of long slots))) before
-      → ReadLog long slots before (Frames count) after
+      → ReadLog long slots before (Ok count) after
   unfolding end_of written_of
   log_read room clean {count} {after} is put =
-      record { ends = simp (le-ltb (length before) (length slots) room, clean) (ap Frames is); written = put }
+      record { ends = simp (le-ltb (length before) (length slots) room, clean) (ap (λ (n : ℕ). Ok n) is); written = put }

@@ -20,7 +20,7 @@ ghost use Rattle.reader.specs.Entries.{acked_in};
 use crate::entry::{Entry, acked};
 use crate::levels::{levels_end, next_start, strays};
 use crate::record::put_record;
-use logs::LogRead;
+use logs::LogError;
 
 // What stands for the frame before where there is none: no header gives so many fields, so no frame says it again.
 fn no_entry() -> Entry
@@ -57,15 +57,15 @@ fn put_records(long: bool, slots: &[u32], records: &mut [u32]) -> usize
 
 // Reads a log. `long` is mode 1, with 32 attempts. The records go to the front of the list, one behind the other;
 // places past them keep their contents, and so does the whole list where the log is refused.
-pub fn read_log(long: bool, slots: &[u32], records: &mut [u32]) -> LogRead
+pub fn read_log(long: bool, slots: &[u32], records: &mut [u32]) -> Result<usize, LogError>
     ensures whole { ReadLog long slots.now records.old result records.new }
     ensures relied { Relied long }
 {
     if records.len() < slots.len() {
-        return LogRead::ShortList;
+        return Err(LogError::ShortList);
     }
     if strays(slots) {
-        return LogRead::NoSlot;
+        return Err(LogError::NoSlot);
     }
-    LogRead::Frames(put_records(long, slots, records))
+    Ok(put_records(long, slots, records))
 }

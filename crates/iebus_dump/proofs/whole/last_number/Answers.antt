@@ -6,12 +6,12 @@ use Rattle.iebus_dump.proofs.whole.last_number.Goals as goal
 pub returns-then-bytes-gt-MOST_BYTES : goal.returns-then-bytes-gt-MOST_BYTES
 unfolding last_by
 returns-then-bytes-gt-MOST_BYTES c =
-    (rw c.in-Frames.is (simp (lt-ltb _ _ c.if-bytes-gt-MOST_BYTES.true)), search rules)
+    (rw c.in-Ok.is (simp (lt-ltb _ _ c.if-bytes-gt-MOST_BYTES.true)), search rules)
 
 pub returns-then-bytes-ne0 : goal.returns-then-bytes-ne0
 unfolding last_by
 returns-then-bytes-ne0 c = (
-  rw c.in-Frames.is
+  rw c.in-Ok.is
       (simp (le-ltb _ _ c.if-bytes-gt-MOST_BYTES.false, ne_eqb _ _ c.if-bytes-ne0.true)),
   search rules,
 )
@@ -19,16 +19,11 @@ returns-then-bytes-ne0 c = (
 pub returns-else-bytes-ne0 : goal.returns-else-bytes-ne0
 unfolding last_by
 returns-else-bytes-ne0 c = (
-  rw c.in-Frames.is (simp (le-ltb _ _ c.if-bytes-gt-MOST_BYTES.false, eq-eqb _ _ c.if-bytes-ne0.false)),
+  rw c.in-Ok.is (simp (le-ltb _ _ c.if-bytes-gt-MOST_BYTES.false, eq-eqb _ _ c.if-bytes-ne0.false)),
   search rules,
 )
 
-pub returns-in-ShortList : goal.returns-in-ShortList
+pub returns-in-Err : goal.returns-in-Err
 unfolding last_by
-returns-in-ShortList c =
-    (rw c.in-ShortList.is, search rules)
-
-pub returns-in-NoSlot : goal.returns-in-NoSlot
-unfolding last_by
-returns-in-NoSlot c =
-    (rw c.in-NoSlot.is, search rules)
+returns-in-Err c =
+    (rw c.in-Err.is, search rules)
