@@ -8,11 +8,7 @@ pub returns-then-slots-i-lt8 : goal.returns-then-slots-i-lt8
 returns-then-slots-i-lt8 c =
     λ e. absurd (false≢true e)
 
-pub overlaid-requires : goal.overlaid-requires
-overlaid-requires c =
-    omega (arith, c.if-slots-i-lt8.false)
-
 pub returns : goal.returns
 returns c =
-    λ test. levels_ahead (omega (arith, c.if-slots-i-lt8.false)) c.overlaid.ensures
+    λ test. levels_ahead 8 (omega (arith, c.if-slots-i-lt8.false)) c.overlaid.ensures
     (omega (arith, leb-true c.overlaid.result 1 test))
