@@ -1,5 +1,5 @@
 -- The frame before against the frame at hand: the code's comparison is the one of the readings.
-use mathlib.Core.Bool.{Bool, true, false, ◌&&◌}
+use mathlib.Core.Bool.{true, ◌&&◌}
 use mathlib.Core.Path.{◌≡◌, refl, sym, ap, ap₂, ◌∙◌}
 use mathlib.Core.List.{List, [], ◌∷◌, map}
 use Prim.Native.Nat.{ℕ, zero, suc, ◌+◌, ◌*◌, ◌/◌, ◌%◌, ◌<◌, ◌≤◌}
@@ -9,6 +9,7 @@ use lib.Dec.{eqb}
 use lib.ListN.{get_or-eq_default, drop, get_or, length}
 use lib.Seq.{ext_get_or}
 use Rattle.std.proofs.Common.{Some}
+use Rattle.std.proofs.lemmas.Bool.Decides.{same_from_decides}
 use Rattle.std.proofs.lemmas.Slice.Eq.{bytes_eq-Decides}
 use Rattle.line.proofs.Either.{both}
 use Rattle.line.specs.Cases.{same}
@@ -20,12 +21,6 @@ use Rattle.logs.specs.Records.{byte_word, second_word}
 use Rattle.reader.specs.declared.entry.Entry.{Entry}
 use Rattle.reader.specs.declared.entry.Front.{Front}
 use Rattle.reader.specs.Entries.{Stands, acked_in, alike_entries, alike_fronts, bytes_from, said_of}
-
--- two tests that hold together come out alike
-together : (a b : Bool) → (a ≡ true → b ≡ true) → (b ≡ true → a ≡ true) → a ≡ b
-together true b f g = sym (f refl)
-together false true f g = g refl
-together false false f g = refl
 
 -- five numbers alike, and none behind them
 five : (xs ys : List ℕ) → length xs ≤ 5 → length ys ≤ 5 → get_or xs 0 0 ≡ get_or ys 0 0 → get_or xs 1 0 ≡ get_or ys 1 0
@@ -165,4 +160,5 @@ module _ {r s : Reading} {a b : Entry} {records : List ℕ} (p : Stands r a reco
       ((bytes_eq-Decides (bytes_of records a) (bytes_of records b)).1 bytes)
 
   pub entries_alike : alike_entries records (Some a) b ≡ equal_frames r s
-  entries_alike = together (alike_entries records (Some a) b) (equal_frames r s) to back
+  entries_alike =
+      same_from_decides (alike_entries records (Some a) b) (equal_frames r s) (to, back) ((λ e. e), (λ e. e))

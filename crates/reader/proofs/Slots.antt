@@ -11,9 +11,8 @@ use borrow.Author.Count.{below_more}
 use borrow.Author.Tests.{le-ltb, lt-ltb, ne_eqb}
 use lib.Bits.{and_le_l, and_le_r, bit_or, or_add_and, or_lt}
 use lib.Dec.{ltb}
-use lib.ListN.{get_or-eq_default, drop, drop_of_length-le, get_or, length, length-drop, length-take, take}
-use lib.Pow.{pow_pos}
-use lib.Seq.{get_or-drop, get_or-take, slice, slice_empty, take-suc}
+use lib.ListN.{get_or-eq_default, drop, drop_of_length-le, get_or, length, length-take, take}
+use lib.Seq.{get_or-drop, get_or-take, slice, take-suc}
 use Rattle.line.proofs.Either.{below_or_not, either}
 use Rattle.line.proofs.Places.{cut}
 use Rattle.line.specs.Numbers.{slot_idle, slot_start}
@@ -21,12 +20,9 @@ use Rattle.logs.proofs.Frames.{none_stray, stray_found}
 use Rattle.logs.specs.Fields.{number_from}
 use Rattle.logs.specs.Frames.{Low, frames_of, levels_from, stray_in}
 use Rattle.reader.proofs.Parts.{part, slice_more}
-use Rattle.reader.specs.Reading.{LevelsAhead, LevelsEnd, NextStart, Overlaid, Within}
+use Rattle.reader.specs.Reading.{LevelsAhead, LevelsEnd, Overlaid, Within}
 
 -- ---- overlaid
-
-pub overlaid_none : (words : List ℕ) → Overlaid words 0 0
-overlaid_none words = record { most = λ k none. omega arith; fits = λ width low. pow_pos width }
 
 pub overlaid_one : {words : List ℕ} {digits i : ℕ} → Overlaid words i digits
     → Overlaid words (i + 1) (bit_or digits (get_or words i 0))
@@ -70,9 +66,6 @@ pub record Searched (slots : List ℕ) (from i : ℕ) : Type 0 where
   pub within : Within slots from i
   pub passed : frames_of (drop from slots) ≡ frames_of (drop i slots)
 
-pub searched_none : (slots : List ℕ) (from : ℕ) → from ≤ length slots → Searched slots from from
-searched_none slots from h = record { within = record { ahead = omega arith; inside = h }; passed = refl }
-
 pub searched_one : {slots : List ℕ} {from i : ℕ} → Searched slots from i → i < length slots
     → (get_or slots i 0 ≡ slot_start → ⊥) → Searched slots from (i + 1)
 unfolding frames_of
@@ -81,11 +74,6 @@ searched_one {slots} {from} {i} s more other =
       within = record { ahead = omega (arith, s.within.ahead); inside = omega arith };
       passed = s.passed ∙ ap frames_of (cut slots i more) ∙ simp (ne_eqb (get_or slots i 0) slot_start other);
     }
-
-pub searched_here : {slots : List ℕ} {from i : ℕ} → Searched slots from i → i < length slots
-    → get_or slots i 0 ≡ slot_start → NextStart slots from i
-searched_here {slots} {from} {i} s more is =
-    record { ahead = s.within.ahead; inside = more; passed = s.passed; there = is }
 
 pub searched_all : {slots : List ℕ} {from i : ℕ} → Searched slots from i → length slots ≤ i
     → frames_of (drop from slots) ≡ []
@@ -97,13 +85,6 @@ searched_all {slots} {from} {i} s over = s.passed ∙ ap frames_of (drop_of_leng
 pub record Followed (slots : List ℕ) (from i : ℕ) : Type 0 where
   pub searched : Searched slots from i
   pub levels : levels_from (drop from slots) ≡ slice from i slots ++ levels_from (drop i slots)
-
-pub followed_none : (slots : List ℕ) (from : ℕ) → from ≤ length slots → Followed slots from from
-followed_none slots from h =
-    record {
-      searched = searched_none slots from h;
-      levels = ap (λ (l : List ℕ). l ++ levels_from (drop from slots)) (sym (slice_empty from slots));
-    }
 
 pub followed_one : {slots : List ℕ} {from i : ℕ} → Followed slots from i → i < length slots
     → get_or slots i 0 < slot_start → Followed slots from (i + 1)
@@ -131,23 +112,6 @@ followed_ahead (suc count) {slots} {from} {i} f a =
     (followed_one
     (followed_ahead count f (record { there = omega arith; low = λ k below. a.low k (omega arith) }))
     (omega arith) (a.low count (omega arith)))
-
--- words whose digits are those of a level are levels
-pub levels_ahead : {slots : List ℕ} {i digits : ℕ} (count : ℕ) → i + count ≤ length slots
-    → Overlaid (take (i + count - i) (drop i slots)) (length (take (i + count - i) (drop i slots))) digits
-    → digits < slot_start → LevelsAhead count slots i
-levels_ahead {slots} {i} {digits} count there o low =
-    let so-many : i + count - i ≡ count = omega arith in
-    let part = take (i + count - i) (drop i slots) in
-    let long : length part ≡ count =
-    omega (arith, length-take (i + count - i) (drop i slots), length-drop i slots) in
-    record {
-      there = there;
-      low = λ k below.
-          let is : get_or part k 0 ≡ get_or slots (i + k) 0 =
-          get_or-take (i + count - i) (drop i slots) k 0 (omega arith) ∙ get_or-drop i slots k 0 in
-          omega (arith, o.most k (omega arith));
-    }
 
 ended : {slots : List ℕ} {from i : ℕ} → Followed slots from i → levels_from (drop i slots) ≡ [] → LevelsEnd slots from i
 ended {slots} {from} {i} f none =

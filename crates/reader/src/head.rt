@@ -21,6 +21,17 @@ pub struct Head {
     pub ending: Ending,
 }
 
+// The header of a frame that is broken off at once.
+const NO_FIELD: Head = Head {
+    given: 0,
+    bit: 0,
+    master: 0,
+    slave: 0,
+    control: 0,
+    bytes: 0,
+    ending: Ending::BrokenBit,
+};
+
 fn length_in(byte: u32) -> u32
     requires { byte < 0x100 }
     ensures { result ≡ length_in byte }
@@ -86,23 +97,14 @@ pub(crate) fn head_of(levels: &[u32]) -> Head
     ensures { result ≡ head_of levels.now }
 {
     let count = levels.len();
-    let none = Head {
-        given: 0,
-        bit: 0,
-        master: 0,
-        slave: 0,
-        control: 0,
-        bytes: 0,
-        ending: Ending::BrokenBit,
-    };
     if count < 1 {
-        return none;
+        return NO_FIELD;
     }
     let sent = Head {
         given: 1,
         bit: levels[0],
         ending: Ending::BrokenMaster,
-        ..none
+        ..NO_FIELD
     };
     if count < 14 {
         return sent;

@@ -1,19 +1,7 @@
 use native.Mathlib.Omega.{arith}
-use Rattle.reader.proofs.Slots.{followed_ahead, followed_all, followed_here, followed_none}
+use Rattle.reader.proofs.Slots.{followed_ahead, followed_all, followed_here}
 use Rattle.reader.proofs.Slots.{followed_one}
 use Rattle.reader.proofs.levels.levels_end.Goals as goal
-
-pub loop-i-init : goal.loop-i-init
-loop-i-init c =
-    followed_none _ _ c.requires
-
-pub overflow_add-i : goal.overflow_add-i
-overflow_add-i c =
-    omega (arith, (c.eight_levels.ensures c.loop-i-test.true).there)
-
-pub loop-i-smaller : goal.loop-i-smaller
-loop-i-smaller c =
-    omega (arith, (c.eight_levels.ensures c.loop-i-test.true).there)
 
 pub loop-i-preserved : goal.loop-i-preserved
 loop-i-preserved c =

@@ -1,13 +1,5 @@
-use Rattle.reader.proofs.Slots.{searched_all, searched_here, searched_none, searched_one}
+use Rattle.reader.proofs.Slots.{searched_all, searched_one}
 use Rattle.reader.proofs.levels.next_start.Goals as goal
-
-pub loop-place-init : goal.loop-place-init
-loop-place-init c =
-    searched_none _ _ c.requires
-
-pub returns-then-slots-place-eq-SLOT_START : goal.returns-then-slots-place-eq-SLOT_START
-returns-then-slots-place-eq-SLOT_START c =
-    searched_here c.loop-place.invariant c.loop-place-test.true c.if-slots-place-eq-SLOT_START.true
 
 pub loop-place-preserved : goal.loop-place-preserved
 loop-place-preserved c =

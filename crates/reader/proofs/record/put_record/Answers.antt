@@ -1,5 +1,4 @@
-use native.Mathlib.Omega.{arith}
-use Rattle.reader.proofs.Records.{Putting, ends_middle, first_fits, front_fits, front_most, front_two_most, few, values_fit}
+use Rattle.reader.proofs.Records.{Putting, ends_middle, first_fits, front_fits, few, values_fit}
 use Rattle.reader.proofs.Records.{record_put}
 use Rattle.reader.proofs.record.put_record.Goals as goal
 use Rattle.reader.proofs.record.put_record.Goals.{After-put_data-body}
@@ -16,20 +15,6 @@ module _ (c : After-put_data-body) where
         is_front = c.front_words.ensures;
         wrote = c.put_data-body.ensures;
       }
-
-pub overflow_add-bytes : goal.overflow_add-bytes
-overflow_add-bytes c =
-    let most = front_most c.args.levels.now c.head_of-head.ensures in
-    omega (arith, c.front_words.ensures, most, c.requires.low.1)
-
-pub put_data-body-requires-clause-low : goal.put_data-body-requires-clause-low
-put_data-body-requires-clause-low c =
-    (c.requires.low.0, c.head_of-head.ensures)
-
-pub put_data-body-requires-clause-levels_bound : goal.put_data-body-requires-clause-levels_bound
-put_data-body-requires-clause-levels_bound c =
-    let few = front_two_most c.head_of-head.result.given in
-    omega (arith, c.front_words.ensures, few, c.requires.low.1)
 
 pub entry_of-entry-requires-clause-values : goal.entry_of-entry-requires-clause-values
 entry_of-entry-requires-clause-values c =
