@@ -18,8 +18,8 @@ returns c =
     (line_made c.args.place c.args.slot c.args.words.now c.if-slot-ne-SLOT_START.false
     c.word-first.ensures c.word.ensures
     (rw (
-      c.least-end.ensures,
-      c.least-from.ensures,
+      c.min-end.ensures,
+      c.min-from.ensures,
       c.acked.ensures.0,
       c.ahead.ensures.0,
     ) (part_cut c.args.words.now _ _)))
