@@ -1,7 +1,4 @@
-use native.Mathlib.Omega.{arith}
-use mathlib.Core.Path.{ap, sym}
-use lib.Seq.{take_all}
-use Rattle.iebus_dump.specs.Line.{bytes_column}
+use mathlib.Core.Path.{sym}
 use Rattle.pieces.proofs.Pieces.{named, nothing, then}
 use Rattle.iebus_dump.proofs.Written.{bytes_more, no_bytes}
 use Rattle.iebus_dump.proofs.lines.put_bytes.Goals as goal
@@ -15,7 +12,3 @@ loop-byte-preserved c =
     named (then c.loop-byte.invariant c.put-end.ensures)
     (rw (c.digit-in-loop-byte.ensures, c.digit.ensures)
     (bytes_more c.args.bytes.now c.loop-byte.byte-index c.loop-byte-test.true))
-
-pub returns : goal.returns
-returns c =
-    named c.loop-byte.invariant (ap bytes_column (take_all c.loop-byte.byte-index c.args.bytes.now (omega arith)))
