@@ -16,8 +16,8 @@ use Rattle.logs.proofs.Readings.{record_fits}
 use Rattle.logs.specs.declared.LogError.TheVariants.{NoSlot, ShortList}
 use Rattle.logs.specs.Frames.{Low, frames_of, stray_in}
 use Rattle.logs.specs.Log.{ReadLog, end_of, written_of}
-use Rattle.logs.specs.Readings.{read_of}
-use Rattle.logs.specs.Records.{Before, again_after, frame, marked_after, marked_by, none, record_words, records_by}
+use Rattle.logs.specs.Readings.{Reading, read_of}
+use Rattle.logs.specs.Records.{again_after, marked_after, marked_by, record_words, records_by}
 use Rattle.logs.specs.Records.{records_of, words_of}
 use Rattle.reader.proofs.Pasting.{paste_behind, paste_end, paste_length}
 use Rattle.reader.proofs.Records.{record_of}
@@ -46,12 +46,12 @@ piece_filled {whole} {first} {now} {rest} {i} piece f room =
     }
 
 -- the words of the frames from a place on, behind the frame before
-abbrev words_from : Bool → Before → List ℕ → ℕ → List ℕ
+abbrev words_from : Bool → Option Reading → List ℕ → ℕ → List ℕ
 words_from long before slots at = words_of (marked_after before (map (read_of long) (frames_of (drop at slots))))
 
 pub record SoFar (long : Bool) (slots first records : List ℕ) (frames next : ℕ) (entry : Option Entry)
     (from : ℕ) : Type 0 where
-  pub before : Before
+  pub before : Option Reading
   pub stands : StandsBefore before entry records
   pub filled : Filled (words_of (records_of long slots)) first records (words_from long before slots from) next
   pub count : length (frames_of slots) ≡ frames + length (frames_of (drop from slots))
@@ -64,7 +64,7 @@ pub so_far_none : (long : Bool) (slots first : List ℕ) → SoFar long slots fi
 unfolding records_by
 so_far_none long slots first =
     record {
-      before = none;
+      before = None;
       stands = tt;
       filled = nothing_filled (words_of (records_of long slots)) first;
       count = omega arith;
@@ -102,7 +102,7 @@ module _ {long : Bool} {slots first records : List ℕ} {frames next : ℕ} {ent
 
   words_there : words_from long s.before slots from
       ≡ record_words (record_of long levels (again_after s.before (read_of long levels)))
-      ++ words_from long (frame (read_of long levels)) slots end
+      ++ words_from long (Some (read_of long levels)) slots end
   unfolding words_of marked_by
   words_there = ap (λ (ls : List (List ℕ)). words_of (marked_after s.before (map (read_of long) ls))) frames_there
 
@@ -127,7 +127,7 @@ module _ {long : Bool} {slots first records : List ℕ} {frames next : ℕ} {ent
       let mark = again_after s.before (read_of long levels) in
       let words = record_words (record_of long levels mark) in
       record {
-        before = frame (read_of long levels);
+        before = Some (read_of long levels);
         stands = put.stands;
         filled =
             rw (put.ends mark, put.written s.before s.stands)

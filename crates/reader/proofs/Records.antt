@@ -12,7 +12,7 @@ use Rattle.logs.proofs.Readings.{Bounded, reading_bounded, record_fits}
 use Rattle.logs.specs.Fields.{Field, given_in, header, nak_at, value_in}
 use Rattle.logs.specs.Frames.{Low}
 use Rattle.logs.specs.Readings.{Reading, bit_in, control_in, data_of, length_of, master_in, read_of, slave_in}
-use Rattle.logs.specs.Records.{Before, Record, again_after, byte_word, first_word, frame, none, record_words, words_behind}
+use Rattle.logs.specs.Records.{Record, again_after, byte_word, first_word, record_words, words_behind}
 use Rattle.std.proofs.Common.{Option, None, Some}
 use Rattle.reader.proofs.Endings.{numbered}
 use Rattle.reader.proofs.Entries.{entries_alike}
@@ -260,13 +260,13 @@ module _ {long : Bool} {levels : List ℕ} {at : ℕ} {before : List ℕ} {head 
         inside = omega (arith, s.inside, middle_long);
       }
 
-  again_is : (b : Before) (old : Option Entry) → EndsBy old at → StandsBefore b old before
+  again_is : (b : Option Reading) (old : Option Entry) → EndsBy old at → StandsBefore b old before
       → alike_entries middle old entry ≡ again_after b (read_of long levels)
   unfolding alike_entries
-  again_is none None ahead stood = refl
-  again_is none (Some old) ahead stood = absurd stood
-  again_is (frame r) None ahead stood = absurd stood
-  again_is (frame r) (Some old) ahead stood = entries_alike (stands_kept ahead stood) stands_middle
+  again_is None None ahead stood = refl
+  again_is None (Some old) ahead stood = absurd stood
+  again_is (Some r) None ahead stood = absurd stood
+  again_is (Some r) (Some old) ahead stood = entries_alike (stands_kept ahead stood) stands_middle
 
   -- the frame before and this one have their bytes in the middle
   pub ends_middle : (old : Option Entry) → EndsBy old at

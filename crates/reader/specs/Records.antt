@@ -1,8 +1,8 @@
 -- The record of a frame as the code writes it.
 use Rattle.std.specs.Prelude.{Bool, ◌≡◌, List, [], ◌∷◌, ℕ, ◌+◌, ◌*◌, Option, None, Some, ltb, length}
 use Rattle.line.specs.Choice.{bit_of, pick}
-use Rattle.logs.specs.Readings.{read_of}
-use Rattle.logs.specs.Records.{Before, again_after, frame, none, record_words}
+use Rattle.logs.specs.Readings.{Reading, read_of}
+use Rattle.logs.specs.Records.{again_after, record_words}
 use Rattle.reader.specs.declared.ending.Ending.{Ending}
 use Rattle.reader.specs.declared.entry.Entry.{Entry}
 use Rattle.reader.specs.declared.entry.Front.{Front}
@@ -37,16 +37,16 @@ abbrev pub front_of : Front → ℕ → List ℕ
 front_of front first = first ∷ pick (ltb front.given 2) [] (front.addresses ∷ [])
 
 -- the frame before has its entry, or there is neither
-abbrev pub StandsBefore : Before → Option Entry → List ℕ → Type 0
-StandsBefore none None records = Unit {0}
-StandsBefore none (Some entry) records = ⊥
-StandsBefore (frame r) None records = ⊥
-StandsBefore (frame r) (Some entry) records = Stands r entry records
+abbrev pub StandsBefore : Option Reading → Option Entry → List ℕ → Type 0
+StandsBefore None None records = Unit {0}
+StandsBefore None (Some entry) records = ⊥
+StandsBefore (Some r) None records = ⊥
+StandsBefore (Some r) (Some entry) records = Stands r entry records
 
 -- the record of a frame is written from a place on, and its entry stands for the next frame
 pub record RecordPut (long : Bool) (levels : List ℕ) (at : ℕ) (old : Option Entry) (before : List ℕ)
     (entry : Entry) (after : List ℕ) : Type 0 where
-  pub written : (b : Before) → StandsBefore b old before
+  pub written : (b : Option Reading) → StandsBefore b old before
       → after
       ≡ pasted before at
       (record_words (record { again = again_after b (read_of long levels); reading = read_of long levels }))
