@@ -19,7 +19,7 @@ use Rattle.logs.specs.Readings.{Reading, bit_in, bytes_in, control_in, equal_fra
 use Rattle.logs.specs.Readings.{slave_in, took_in}
 use Rattle.logs.specs.Records.{byte_word, second_word}
 use Rattle.reader.specs.declared.entry.Entry.{Entry}
-use Rattle.reader.specs.declared.entry.Front.{Front}
+use Rattle.reader.specs.declared.head.Front.{Front}
 use Rattle.reader.specs.Entries.{Stands, acked_in, alike_entries, alike_fronts, bytes_from, said_of}
 
 -- five numbers alike, and none behind them

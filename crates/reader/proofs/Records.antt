@@ -19,7 +19,7 @@ use Rattle.reader.proofs.Entries.{entries_alike}
 use Rattle.reader.proofs.Parts.{part}
 use Rattle.reader.proofs.Pasting.{paste_before, paste_behind, paste_front, paste_length, paste_there}
 use Rattle.reader.specs.declared.entry.Entry.{Entry}
-use Rattle.reader.specs.declared.entry.Front.{Front}
+use Rattle.reader.specs.declared.head.Front.{Front}
 use Rattle.reader.specs.declared.head.Head.{Head}
 use Rattle.reader.specs.declared.text.Body.{Body}
 use Rattle.reader.specs.Endings.{ending_number}
@@ -86,7 +86,7 @@ record-words long levels again bytes = refl
 
 words_counted : (long : Bool) (levels : List ℕ) (again : Bool)
     → length (record_words (record_of long levels again))
-    ≡ front_words (head_of levels).given + length (read_of long levels).text.acked
+    ≡ front_words (head_of levels).front.given + length (read_of long levels).text.acked
 words_counted long levels again =
     let first = first_word (record_of long levels again) in
     let front = front_of (entry_in long levels 0).front first in
@@ -100,7 +100,7 @@ pub record Putting (long : Bool) (levels : List ℕ) (at : ℕ) (before : List �
   pub low : Low levels
   pub room : at + 1 + length levels ≤ length before
   pub is_head : head ≡ head_of levels
-  pub is_front : front ≡ front_words head.given
+  pub is_front : front ≡ front_words head.front.given
   pub wrote : Wrote (data_of long (given_in header levels) levels) (at + front) before body middle
 
 module _ {long : Bool} {levels : List ℕ} {at : ℕ} {before : List ℕ} {head : Head} {front : ℕ} {body : Body}
@@ -140,15 +140,15 @@ module _ {long : Bool} {levels : List ℕ} {at : ℕ} {before : List ℕ} {head 
   unfolding read_of head_of
   said_is = ap (λ (e : Entry). e.front.said) entry_is
 
-  pub values_fit : Values head.bit head.master head.slave head.control head.bytes
+  pub said_fits : head.front.said < 0x8_0000
   unfolding read_of head_of
-  values_fit = rw p.is_head values
+  said_fits = rw p.is_head (omega (arith, bounded.bit, bounded.control, bounded.bytes))
 
   pub few : (body.acked ≤ 32) × (body.unacked ≤ 32)
   few = (omega (arith, count, bounded.acked), rw written.told bounded.unacked)
 
   acked_is : acked_in entry ≡ body.acked
-  acked_is = omega (arith, values_fit.bit_low, values_fit.control_low, values_fit.bytes_most, few.0)
+  acked_is = omega (arith, said_fits, few.0)
 
   front_long : (first : ℕ) → at + length (front_of entry.front first) ≡ at + front
   front_long first = ap (λ (n : ℕ). at + n) (front_length entry.front first ∙ sym p.is_front)
@@ -156,8 +156,8 @@ module _ {long : Bool} {levels : List ℕ} {at : ℕ} {before : List ℕ} {head 
   record_ends : (again : Bool)
       → at + front + acked_in entry ≡ at + length (record_words (record_of long levels again))
   record_ends again =
-      let same : front ≡ front_words (head_of levels).given =
-      p.is_front ∙ ap (λ (h : Head). front_words h.given) p.is_head in
+      let same : front ≡ front_words (head_of levels).front.given =
+      p.is_front ∙ ap (λ (h : Head). front_words h.front.given) p.is_head in
       omega (arith, words_counted long levels again, count, same, acked_is)
 
   record_room : at + front + body.acked ≤ length before
@@ -170,10 +170,9 @@ module _ {long : Bool} {levels : List ℕ} {at : ℕ} {before : List ℕ} {head 
   middle_long = ap length written.written ∙ paste_length before (byte_words long levels) (at + front) words_room
 
   pub first_fits : entry.front.said < 0x8000_0000
-  first_fits =
-      omega (arith, values_fit.bit_low, values_fit.control_low, values_fit.bytes_most, few.0, few.1)
+  first_fits = omega (arith, said_fits, few.0, few.1)
 
-  pub front_fits : at + front_words head.given ≤ length middle
+  pub front_fits : at + front_words head.front.given ≤ length middle
   front_fits = omega (arith, record_room, middle_long, p.is_front)
 
   bytes_there : bytes_from middle (at + front) body.acked ≡ byte_words long levels

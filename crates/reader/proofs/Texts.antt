@@ -3,19 +3,20 @@ use mathlib.Core.Bool.{Bool, true, false, ◌&&◌, not, true≢false}
 use mathlib.Core.Logic.{⊎_elim}
 use mathlib.Core.Path.{◌≡◌, refl, sym, ap, ap₂, ◌∙◌}
 use mathlib.Core.List.{List, [], ◌∷◌, ◌++◌, append-nil, map, map-append}
-use Prim.Native.Nat.{ℕ, zero, suc, ◌+◌, ◌*◌, ◌-◌, ◌<◌, ◌≤◌}
+use Prim.Native.Nat.{ℕ, zero, suc, ◌+◌, ◌*◌, ◌-◌, ◌/◌, ◌%◌, ◌<◌, ◌≤◌}
 use native.Mathlib.Omega.{arith}
 use borrow.Author.Tests.{eq-eqb, eqb-true, le-leb, leb-true, le-ltb, lt-ltb, ltb-true, ne_eqb}
 use lib.Dec.{eqb, leb, ltb}
-use lib.ListN.{drop, length, length-append, length-drop, length-map, length-set, set, take}
+use lib.ListN.{drop, get_or, length, length-append, length-drop, length-map, length-set, set, take}
 use lib.Seq.{append_snoc, paste-zero, take_all}
 use Rattle.line.proofs.Either.{below_or_not, both, either, same_or_not}
 use Rattle.line.specs.Numbers.{end_broken_data}
 use Rattle.logs.proofs.Frames.{low_drop}
+use Rattle.logs.proofs.Readings.{Bounded, reading_bounded}
 use Rattle.logs.specs.Data.{Acked, Text, attempts_of, behind, byte_in, counts, text_from, text_of}
 use Rattle.logs.specs.Fields.{data_place, end_in, given_in, header}
 use Rattle.logs.specs.Frames.{Low}
-use Rattle.logs.specs.Readings.{data_of}
+use Rattle.logs.specs.Readings.{data_of, read_of}
 use Rattle.logs.specs.Records.{byte_word}
 use Rattle.reader.proofs.Endings.{broken_data}
 use Rattle.reader.proofs.Pasting.{paste_one}
@@ -220,15 +221,27 @@ module _ (long : Bool) (levels : List ℕ) {head : Head} (is_head : head ≡ hea
   unfolding head_of
   ended = ap (λ (h : Head). h.ending) is_head
 
-  -- a header that came to the data, and slots of it
-  pub data_text : {most : ℕ} → head.ending ≡ BrokenData → data_place < length levels
-      → most ≡ attempts_of long (eqb head.bit 0) head.bytes
-      → text_from most (eqb head.bit 0) head.bytes 0 (drop data_place levels)
-      ≡ data_of long (given_in header levels) levels
-  unfolding data_of head_of
-  data_text {most} broken begun is =
-      let came = broken_data (end_in header levels) (sym ended ∙ broken) in
-      rw (is, is_head) (simp (eq-eqb _ _ came, lt-ltb _ _ begun))
+  module _ (low : Low levels) where
+    bounded : Bounded (read_of false levels)
+    bounded = reading_bounded false levels low
+
+    bit_read : head.front.said / 0x20 % 2 ≡ get_or (given_in header levels) 0 0
+    unfolding head_of read_of
+    bit_read = rw is_head (omega (arith, bounded.bit))
+
+    bytes_read : head.front.said / 0x400 ≡ get_or (given_in header levels) 4 0
+    unfolding head_of read_of
+    bytes_read = rw is_head (omega (arith, bounded.bit, bounded.control))
+
+    -- a header that came to the data, and slots of it
+    pub data_text : {most : ℕ} → head.ending ≡ BrokenData → data_place < length levels
+        → most ≡ attempts_of long (eqb (head.front.said / 0x20 % 2) 0) (head.front.said / 0x400)
+        → text_from most (eqb (head.front.said / 0x20 % 2) 0) (head.front.said / 0x400) 0 (drop data_place levels)
+        ≡ data_of long (given_in header levels) levels
+    unfolding data_of
+    data_text {most} broken begun is =
+        let came = broken_data (end_in header levels) (sym ended ∙ broken) in
+        rw (is, bit_read, bytes_read) (simp (eq-eqb _ _ came, lt-ltb _ _ begun))
 
   pub data_none : (head.ending ≡ BrokenData → length levels ≤ data_place)
       → data_of long (given_in header levels) levels ≡ text_of [] 0 (end_in header levels)

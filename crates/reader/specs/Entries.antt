@@ -5,7 +5,7 @@ use Rattle.logs.specs.Data.{no_byte}
 use Rattle.logs.specs.Readings.{Reading, bit_in, control_in, length_of, master_in, slave_in}
 use Rattle.logs.specs.Records.{byte_word, second_word}
 use Rattle.reader.specs.declared.entry.Entry.{Entry}
-use Rattle.reader.specs.declared.entry.Front.{Front}
+use Rattle.reader.specs.declared.head.Front.{Front}
 use Rattle.reader.specs.Heads.{Values}
 
 -- how many bytes were ACKed

@@ -5,7 +5,7 @@ use Rattle.logs.specs.Readings.{Reading, read_of}
 use Rattle.logs.specs.Records.{again_after, record_words}
 use Rattle.reader.specs.declared.ending.Ending.{Ending}
 use Rattle.reader.specs.declared.entry.Entry.{Entry}
-use Rattle.reader.specs.declared.entry.Front.{Front}
+use Rattle.reader.specs.declared.head.Front.{Front}
 use Rattle.reader.specs.declared.head.Head.{Head}
 use Rattle.reader.specs.declared.text.Body.{Body}
 use Rattle.reader.specs.Endings.{ending_number}
@@ -17,11 +17,9 @@ abbrev pub entry_with : Head → Body → ℕ → Entry
 entry_with head body bytes =
     record {
       front = record {
-        given = head.given;
-        said =
-            head.bit * 0x20 + head.control * 0x40 + head.bytes * 0x400 + body.acked * 0x8_0000
-            + body.unacked * 0x200_0000;
-        addresses = head.master + head.slave * 0x1000;
+        given = head.front.given;
+        said = head.front.said + body.acked * 0x8_0000 + body.unacked * 0x200_0000;
+        addresses = head.front.addresses;
       };
       bytes = bytes;
     }

@@ -2,17 +2,8 @@
 ghost use Rattle.std.specs.Prelude.{◌≡◌, ◌+◌, ◌≤◌, length};
 ghost use Rattle.reader.specs.Entries.{EndsBy, acked_in, alike_entries, bytes_from};
 
+use crate::head::Front;
 use crate::words::{ACKED_NUMBERS, ACKED_WEIGHT};
-
-// What the words before the bytes say of a frame: how many fields are given, what its record's first word says of them,
-// of the number of ACKed bytes and of the attempts after these, and its second word, 0 where there is none. So few
-// numbers are cheap to hand on to the next frame and to compare.
-#[derive(Clone, Copy, PartialEq, Eq)]
-pub struct Front {
-    pub given: u32,
-    pub said: u32,
-    pub addresses: u32,
-}
 
 // A frame whose bytes have been written, and where these stand in the records.
 #[derive(Clone, Copy)]

@@ -6,35 +6,40 @@ ghost use Rattle.reader.specs.Heads.{Addressed, head_of};
 
 use crate::ending::Ending;
 use crate::levels::number;
+use crate::words::{BIT_WEIGHT, CONTROL_WEIGHT, LENGTH_WEIGHT, SLAVE_WEIGHT};
 use line::numbers::LENGTH_OF_ZERO;
 
-// How many of the five fields are given, their values, and how the frame ended, as far as its header tells. Fields are
-// given in their order, and one that is not given is 0, as in a record.
+// What the words before the bytes say of a frame: how many fields are given, what its record's first word says of them
+// and, once its data is read, of the number of ACKed bytes and of the attempts after these, and its second word, 0 where
+// there is none. So few numbers are cheap to hand on to the next frame and to compare.
+#[derive(Clone, Copy, PartialEq, Eq)]
+pub struct Front {
+    pub given: u32,
+    pub said: u32,
+    pub addresses: u32,
+}
+
+impl Front {
+    fn ended(self, ending: Ending) -> Head
+        ensures { result ≡ record { front = self; ending = ending } }
+    {
+        Head {
+            front: self,
+            ending,
+        }
+    }
+}
+
+// What the header of a frame gives, and how the frame ended, as far as its header tells.
 #[derive(Clone, Copy)]
 pub struct Head {
-    pub given: u32,
-    pub bit: u32,
-    pub master: u32,
-    pub slave: u32,
-    pub control: u32,
-    pub bytes: u32,
+    pub front: Front,
     pub ending: Ending,
 }
 
-// The header of a frame that is broken off at once.
-const NO_FIELD: Head = Head {
-    given: 0,
-    bit: 0,
-    master: 0,
-    slave: 0,
-    control: 0,
-    bytes: 0,
-    ending: Ending::BrokenBit,
-};
-
 fn length_in(byte: u32) -> u32
     requires { byte < 0x100 }
-    ensures { result ≡ length_in byte }
+    ensures { (result ≡ length_in byte) × (result ≤ 0x100) }
 {
     if byte == 0 {
         LENGTH_OF_ZERO as u32
@@ -52,42 +57,36 @@ fn is_nak(levels: &[u32], place: usize) -> bool
 }
 
 // The header of a frame that has its slave address and no NAK there, from what these fields give.
-fn head_answered(levels: &[u32], head: Head) -> Head
-    requires { Low levels.now × (28 ≤ length levels.now) × Addressed levels.now head }
+fn head_answered(levels: &[u32], addressed: Front) -> Head
+    requires { Low levels.now × (28 ≤ length levels.now) × Addressed levels.now addressed }
     ensures { result ≡ head_of levels.now }
 {
     let count = levels.len();
     if count < 34 {
-        return head;
+        return addressed.ended(Ending::BrokenControl);
     }
-    let head = Head {
+    let control = number(&levels[28..32]);
+    let controlled = Front {
         given: 4,
-        control: number(&levels[28..32]),
-        ending: Ending::BrokenLength,
-        ..head
+        said: addressed.said + control * CONTROL_WEIGHT,
+        ..addressed
     };
     if is_nak(levels, 33) {
-        return Head {
-            ending: Ending::NakControl,
-            ..head
-        };
+        return controlled.ended(Ending::NakControl);
     }
     if count < 44 {
-        return head;
+        return controlled.ended(Ending::BrokenLength);
     }
-    let head = Head {
+    let bytes = length_in(number(&levels[34..42]));
+    let whole = Front {
         given: 5,
-        bytes: length_in(number(&levels[34..42])),
-        ending: Ending::BrokenData,
-        ..head
+        said: controlled.said + bytes * LENGTH_WEIGHT,
+        ..controlled
     };
     if is_nak(levels, 43) {
-        return Head {
-            ending: Ending::NakLength,
-            ..head
-        };
+        return whole.ended(Ending::NakLength);
     }
-    head
+    whole.ended(Ending::BrokenData)
 }
 
 // The header of a frame of these levels. A frame is broken off in the first field that is not there, and one that has
@@ -97,38 +96,39 @@ pub(crate) fn head_of(levels: &[u32]) -> Head
     ensures { result ≡ head_of levels.now }
 {
     let count = levels.len();
+    let none = Front {
+        given: 0,
+        said: 0,
+        addresses: 0,
+    };
     if count < 1 {
-        return NO_FIELD;
+        return none.ended(Ending::BrokenBit);
     }
-    let sent = Head {
+    let sent = Front {
         given: 1,
-        bit: levels[0],
-        ending: Ending::BrokenMaster,
-        ..NO_FIELD
+        said: levels[0] * BIT_WEIGHT,
+        ..none
     };
     if count < 14 {
-        return sent;
+        return sent.ended(Ending::BrokenMaster);
     }
-    let mastered = Head {
+    let master = number(&levels[1..13]);
+    let mastered = Front {
         given: 2,
-        master: number(&levels[1..13]),
-        ending: Ending::BrokenSlave,
+        addresses: master,
         ..sent
     };
     if count < 28 {
-        return mastered;
+        return mastered.ended(Ending::BrokenSlave);
     }
-    let addressed = Head {
+    let slave = number(&levels[14..26]);
+    let addressed = Front {
         given: 3,
-        slave: number(&levels[14..26]),
-        ending: Ending::BrokenControl,
+        addresses: mastered.addresses + slave * SLAVE_WEIGHT,
         ..mastered
     };
     if is_nak(levels, 27) {
-        return Head {
-            ending: Ending::NakSlave,
-            ..addressed
-        };
+        return addressed.ended(Ending::NakSlave);
     }
     head_answered(levels, addressed)
 }

@@ -6,18 +6,15 @@ ghost use Rattle.logs.specs.Data.{attempts_of};
 ghost use Rattle.logs.specs.Fields.{given_in, header};
 ghost use Rattle.logs.specs.Readings.{data_of};
 ghost use Rattle.reader.specs.Entries.{EndsBy};
-ghost use Rattle.reader.specs.Heads.{Values, head_of};
+ghost use Rattle.reader.specs.Heads.{head_of};
 ghost use Rattle.reader.specs.Texts.{Wrote, pasted};
 ghost use Rattle.reader.specs.Records.{RecordPut, entry_with, first_with, front_of, front_words};
 
 use crate::ending::Ending;
-use crate::entry::{Entry, Front, alike};
-use crate::head::{Head, head_of};
+use crate::entry::{Entry, alike};
+use crate::head::{Front, Head, head_of};
 use crate::text::{Body, DATA_PLACE, put_text};
-use crate::words::{
-    ACKED_WEIGHT, AGAIN_WEIGHT, BIT_WEIGHT, CONTROL_WEIGHT, LENGTH_WEIGHT, SLAVE_WEIGHT,
-    UNACKED_WEIGHT,
-};
+use crate::words::{ACKED_WEIGHT, AGAIN_WEIGHT, BIT_WEIGHT, LENGTH_WEIGHT, UNACKED_WEIGHT};
 use line::numbers::{ATTEMPTS_MODE_0, ATTEMPTS_MODE_1};
 
 // How many attempts a frame makes at most: a broadcast one for each byte.
@@ -49,9 +46,10 @@ fn put_data(long: bool, head: Head, levels: &[u32], records: &mut [u32], at: usi
     }
     match head.ending {
         Ending::BrokenData => {
-            let broadcast = head.bit == 0;
-            let most = most_attempts(long, broadcast, head.bytes);
-            put_text(levels, broadcast, head.bytes, most, records, at)
+            let broadcast = head.front.said / BIT_WEIGHT % 2 == 0;
+            let bytes = head.front.said / LENGTH_WEIGHT;
+            let most = most_attempts(long, broadcast, bytes);
+            put_text(levels, broadcast, bytes, most, records, at)
         }
         _ => none,
     }
@@ -59,15 +57,12 @@ fn put_data(long: bool, head: Head, levels: &[u32], records: &mut [u32], at: usi
 
 // The entry of a frame with this header and data, whose bytes stand there.
 fn entry_of(head: Head, body: Body, bytes: usize) -> Entry
-    requires values { Values head.bit head.master head.slave head.control head.bytes }
-    requires few { (body.acked ≤ 32) × (body.unacked ≤ 32) }
+    requires { (head.front.said < 0x8_0000) × (body.acked ≤ 32) × (body.unacked ≤ 32) }
     ensures { result ≡ entry_with head body bytes }
 {
-    let fields = head.bit * BIT_WEIGHT + head.control * CONTROL_WEIGHT + head.bytes * LENGTH_WEIGHT;
     let front = Front {
-        given: head.given,
-        said: fields + body.acked as u32 * ACKED_WEIGHT + body.unacked * UNACKED_WEIGHT,
-        addresses: head.master + head.slave * SLAVE_WEIGHT,
+        said: head.front.said + body.acked as u32 * ACKED_WEIGHT + body.unacked * UNACKED_WEIGHT,
+        ..head.front
     };
     Entry { front, bytes }
 }
@@ -110,7 +105,7 @@ pub(crate) fn put_record(
     ensures { RecordPut long levels.now at before records.old result records.new }
 {
     let head = head_of(levels);
-    let bytes = at + front_words(head.given);
+    let bytes = at + front_words(head.front.given);
     let body = put_data(long, head, levels, records, bytes);
     let entry = entry_of(head, body, bytes);
     let again = alike(records, before, entry);

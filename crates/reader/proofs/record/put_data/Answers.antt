@@ -7,7 +7,7 @@ returns-then-levels-le-DATA_PLACE c =
 
 pub returns-in-BrokenData : goal.returns-in-BrokenData
 returns-in-BrokenData c =
-    rw (← data_text c.args.long c.args.levels.now c.requires.low.1 c.in-BrokenData.is c.if-levels-le-DATA_PLACE.false
+    rw (← data_text c.args.long c.args.levels.now c.requires.low.1 c.requires.low.0 c.in-BrokenData.is c.if-levels-le-DATA_PLACE.false
     c.most_attempts-most.ensures.0)
     c.put_text.ensures
 

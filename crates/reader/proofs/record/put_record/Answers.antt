@@ -1,4 +1,4 @@
-use Rattle.reader.proofs.Records.{Putting, ends_middle, first_fits, front_fits, few, values_fit}
+use Rattle.reader.proofs.Records.{Putting, ends_middle, first_fits, front_fits, few, said_fits}
 use Rattle.reader.proofs.Records.{record_put}
 use Rattle.reader.proofs.record.put_record.Goals as goal
 use Rattle.reader.proofs.record.put_record.Goals.{After-put_data-body}
@@ -16,13 +16,10 @@ module _ (c : After-put_data-body) where
         wrote = c.put_data-body.ensures;
       }
 
-pub entry_of-entry-requires-clause-values : goal.entry_of-entry-requires-clause-values
-entry_of-entry-requires-clause-values c =
-    values_fit (putting (goal.at.entry_of-entry-requires-clause-values c).After-put_data-body)
-
-pub entry_of-entry-requires-clause-few : goal.entry_of-entry-requires-clause-few
-entry_of-entry-requires-clause-few c =
-    few (putting (goal.at.entry_of-entry-requires-clause-few c).After-put_data-body)
+pub entry_of-entry-requires : goal.entry_of-entry-requires
+entry_of-entry-requires c =
+    let putting = putting (goal.at.entry_of-entry-requires c).After-put_data-body in
+    let (acked, unacked) = few putting in (said_fits putting, acked, unacked)
 
 pub alike-again-requires : goal.alike-again-requires
 alike-again-requires c =
