@@ -26,7 +26,8 @@ pub(crate) fn given(ending: u32) -> u8
     }
 }
 
-// A capital digit of the lowest four bits, or a dash.
+// A capital digit of the lowest four bits, or a dash. A flag and no `Option`: it is the same for all digits of a field,
+// whose number is cut up first.
 pub(crate) fn digit(given: bool, n: u32) -> u8
     ensures { result ≡ digit_shown given n }
 {

@@ -69,7 +69,8 @@ pub(crate) fn levels_end(slots: &[u32], from: usize) -> usize
     slots.len()
 }
 
-// The number that so many levels make, the highest bit first.
+// The number that so many levels make, the highest bit first. What rests on it asks for `Low`, too: a type of levels
+// would need lengths, places and parts of its own, where a slice has them.
 pub(crate) fn number(levels: &[u32]) -> u32
     requires { (length levels.now ≤ 12) × Low levels.now }
     ensures { (result ≡ number_from 0 levels.now) × (result < 2 ^ length levels.now) }
