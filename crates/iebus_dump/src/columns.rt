@@ -89,7 +89,7 @@ pub(crate) fn kind(given: u8, bit: u32, control: u32) -> [u8; 6]
 }
 
 // What the controls ask for.
-const CONTROL_NAMES: [[u8; 13]; 16] = [
+static CONTROL_NAMES: [[u8; 13]; 16] = [
     *b"status       ",
     *b"undefined    ",
     *b"undefined    ",
@@ -109,14 +109,14 @@ const CONTROL_NAMES: [[u8; 13]; 16] = [
 ];
 
 // What a control asks for, if it is given.
-pub(crate) fn name(given: u8, control: u32) -> [u8; 13]
+pub(crate) fn name(given: u8, control: u32) -> &'static [u8; 13]
     requires { control < 16 }
-    ensures { result ≡ name_shown given control }
+    ensures { result.now ≡ name_shown given control }
 {
     if given < 4 {
-        *b"-            "
+        b"-            "
     } else {
-        CONTROL_NAMES[control as usize]
+        &CONTROL_NAMES[control as usize]
     }
 }
 

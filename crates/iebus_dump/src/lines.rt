@@ -39,7 +39,7 @@ fn put_fields(text: &mut [u8], at: usize, place: usize, first: u32, second: u32)
     let route = route(place as u32, fields, second % 0x1000, second / 0x1000);
     let at = put(text, at, &route);
     let at = put(text, at, &kind(fields, first / 0x20 % 2, control));
-    let at = put(text, at, &name(fields, control));
+    let at = put(text, at, name(fields, control));
     put(text, at, &length(fields, first / 0x400 % 0x200))
 }
 
