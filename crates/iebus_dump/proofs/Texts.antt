@@ -4,30 +4,29 @@ use mathlib.Core.Bool.{Bool, true, false}
 use mathlib.Core.Logic.{⊎_elim}
 use mathlib.Core.Path.{◌≡◌, ◌∙◌, ap, sym, refl}
 use mathlib.Core.List.{List, [], ◌∷◌, ◌++◌, append_assoc}
-use Prim.Native.Nat.{ℕ, suc, ◌+◌, ◌*◌, ◌-◌, ◌≤◌, min, ◌/◌, ◌%◌}
+use Prim.Native.Nat.{ℕ, suc, ◌+◌, ◌-◌, ◌≤◌, min, ◌/◌}
 use native.Mathlib.Omega.{arith}
 use borrow.Author.Tests.{le-ltb}
-use lib.Dec.{eqb, ltb}
+use lib.Dec.{eqb}
 use lib.ListN.{length, take, drop}
 use lib.Seq.{append_snoc, take_all, take-take}
 use Rattle.line.specs.Choice.{bit_of, pick}
 use Rattle.line.specs.Numbers.{slot_start}
 use Rattle.line.proofs.Either.{either}
-use Rattle.logs.specs.declared.LogRead.{LogRead}
-use Rattle.logs.specs.declared.LogRead.TheVariants.{Frames, NoSlot}
+use Rattle.std.specs.Prelude.{Ok, Err}
+use Rattle.logs.specs.declared.LogError.TheVariants.{NoSlot}
 use Rattle.logs.specs.Frames.{frames_of, stray_in}
-use Rattle.logs.specs.Log.{ReadLog, end_of, written_of}
+use Rattle.logs.specs.Log.{LogRead, ReadLog, end_of, written_of}
 use Rattle.logs.specs.Relied.{Relied, starts_in}
 use Rattle.logs.specs.Records.{Record, first_word, record_words, records_of}
 use Rattle.logs.specs.Records.{words_of as recordsWords}
-use Rattle.text.specs.declared.last.Last.TheVariants.{Nothing, Short, More}
 use Rattle.text.specs.Last.{last_text}
 use Rattle.words.specs.Words.{words_of}
 use Rattle.words.proofs.Words.{read_count, read_front}
 use Rattle.iebus_dump.specs.Line.{frame_of, line_of}
 use Rattle.iebus_dump.specs.Dump.{header, last_of, lines_of, most_words, refused, slots_of, starts_from}
 use Rattle.iebus_dump.specs.Dump.{whole_of}
-use Rattle.iebus_dump.specs.Writing.{acked_by, ahead_by, frame_in, last_at, last_by, lines_in}
+use Rattle.iebus_dump.specs.Writing.{acked_by, ahead_by, frame_in, last_by, lines_in}
 use Rattle.iebus_dump.specs.Writing.{shown_by, slot_line, text_by, used_by}
 use Rattle.iebus_dump.proofs.Frames.{Sound, line_right, past_right}
 
@@ -116,9 +115,10 @@ lines_right (w ∷ ws) more rs place sounds count =
 
 -- the words of an input that a list of so many places takes
 pub slots_made : (input list rest : List ℕ) {count room : ℕ} → count ≡ min (length input / 4) room → room ≡ most_words
-    → list ≡ words_of input count ++ rest → take (count - 0) list ≡ slots_of input
+    → list ≡ words_of input count ++ rest → take count list ≡ slots_of input
 unfolding slots_of
-slots_made input list rest = read_front input list rest
+slots_made input list rest {count} counted is made =
+    let all : count - 0 ≡ count = omega arith in rw all at (read_front input list rest counted is made)
 
 slots_count : (input : List ℕ) → length (slots_of input) ≡ min (length input / 4) most_words
 unfolding slots_of
@@ -128,7 +128,7 @@ pub slots_length : (input : List ℕ) → length (slots_of input) ≤ most_words
 slots_length input = omega (arith, slots_count input)
 
 read_as : (room : ℕ) (slots : List ℕ) (stray : Bool) → length slots ≤ room → stray_in slots ≡ stray
-    → end_of room slots ≡ pick stray NoSlot (Frames (length (frames_of slots)))
+    → end_of room slots ≡ pick stray (Err NoSlot) (Ok (length (frames_of slots)))
 unfolding end_of
 read_as room slots stray fits is = simp (le-ltb _ _ fits, is)
 
@@ -140,54 +140,29 @@ whole_as : (long : Bool) (input : List ℕ) (stray : Bool) → stray_in (slots_o
 unfolding whole_of
 whole_as long input stray is = simp is
 
-last_right : (input : List ℕ) (count : ℕ)
-    → last_at (last_by (Frames count) (length input)) ≡ last_text (last_of (length input))
-unfolding last_at last_by last_of last_text
-last_right input count = by_tests (ltb (most_words * 4) (length input)) (eqb (length input % 4) 0) where
-  by_tests : (more whole : Bool)
-      → last_at (pick more 1 (pick whole 3 2)) ≡ last_text (pick more More (pick whole Nothing Short))
-  by_tests true whole = refl
-  by_tests false true = refl
-  by_tests false false = refl
-
--- where the log was read, a last line has a number over 0, so that all the words have their lines
-frames_shown : (slots : List ℕ) (bytes count : ℕ)
-    → take (shown_by (last_by (Frames count) bytes) (length slots) - 0) slots ≡ slots
-unfolding last_by
-frames_shown slots bytes count = by_tests (ltb (most_words * 4) bytes) (eqb (bytes % 4) 0) where
-  whole : take (length slots - 0) slots ≡ slots
-  whole = take_all (length slots - 0) slots (omega arith)
-
-  by_tests : (more even : Bool) → take (shown_by (pick more 1 (pick even 3 2)) (length slots) - 0) slots ≡ slots
-  by_tests true even = whole
-  by_tests false true = whole
-  by_tests false false = whole
-
 -- the text for the words of an input that are shown
 abbrev pub text_of : LogRead → List ℕ → List ℕ → List ℕ
 text_of read input after =
-    text_by (last_by read (length input))
-    (take (shown_by (last_by read (length input)) (length (slots_of input)) - 0) (slots_of input)) after
+    text_by (last_by read (length input)) (take (shown_by read (length (slots_of input))) (slots_of input)) after
 
 -- the text, as the code has it
-pub text_made : (read : LogRead) (input words after : List ℕ) {count room last shown : ℕ}
-    → count ≡ min (length input / 4) room → room ≡ most_words → take (count - 0) words ≡ slots_of input
-    → last ≡ last_by read (length input) → shown ≡ shown_by last count → shown ≤ count
-    → text_by last (take (shown - 0) words) after ≡ text_of read input after
-text_made read input words after {count} {room} {last} {shown} counted is made last-is shown_is within =
+pub text_made : (read : LogRead) (input words after last : List ℕ) {count room shown : ℕ}
+    → count ≡ min (length input / 4) room → room ≡ most_words → take count words ≡ slots_of input
+    → last ≡ last_by read (length input) → shown ≡ shown_by read count → shown ≤ count
+    → text_by last (take shown words) after ≡ text_of read input after
+text_made read input words after last {count} {room} {shown} counted is made last-is shown_is within =
     let slots : List ℕ = slots_of input in
     let places : length slots ≡ count = slots_count input ∙ omega arith in
-    let fewer : shown - 0 ≤ count - 0 = omega arith in
-    ap (λ (l : List ℕ). text_by last l after) (sym (take-take (shown - 0) (count - 0) words fewer))
-    ∙ ap (λ (l : List ℕ). text_by last (take (shown - 0) l) after) made
-    ∙ ap (λ (n : ℕ). text_by last (take (n - 0) slots) after) shown_is
-    ∙ ap (λ (n : ℕ). text_by last (take (shown_by last n - 0) slots) after) (sym places)
-    ∙ ap (λ (n : ℕ). text_by n (take (shown_by n (length slots) - 0) slots) after) last-is
+    ap (λ (l : List ℕ). text_by last l after) (sym (take-take shown count words within))
+    ∙ ap (λ (l : List ℕ). text_by last (take shown l) after) made
+    ∙ ap (λ (n : ℕ). text_by last (take n slots) after) shown_is
+    ∙ ap (λ (n : ℕ). text_by last (take (shown_by read n) slots) after) (sym places)
+    ∙ ap (λ (l : List ℕ). text_by l (take (shown_by read (length slots)) slots) after) last-is
 
 refused_right : {long : Bool} (input : List ℕ) {before after : List ℕ} {read : LogRead}
     → ReadLog long (slots_of input) before read after → most_words ≤ length before → stray_in (slots_of input) ≡ true
     → text_of read input after ≡ whole_of long input
-unfolding text_by last_by last_at lines_in
+unfolding text_by last_by lines_in
 refused_right {long} input {before} {after} {read} reading room stray =
     ap (λ (r : LogRead). text_of r input after)
     (reading.ends ∙ read_as (length before) (slots_of input) true (omega (arith, slots_length input)) stray)
@@ -196,25 +171,24 @@ refused_right {long} input {before} {after} {read} reading room stray =
 frames_right : {long : Bool} (relied : Relied long) (input : List ℕ) {before after : List ℕ} {read : LogRead}
     → ReadLog long (slots_of input) before read after → most_words ≤ length before → stray_in (slots_of input) ≡ false
     → text_of read input after ≡ whole_of long input
-unfolding text_by written_of
+unfolding text_by last_by written_of
 frames_right {long} relied input {before} {after} {read} reading room stray =
     let slots : List ℕ = slots_of input in
     let records : List Record = records_of long slots in
     let count : ℕ = length (frames_of slots) in
-    let is : read ≡ Frames count =
+    let is : read ≡ Ok count =
     reading.ends ∙ read_as (length before) slots false (omega (arith, slots_length input)) stray
     in
     let written : after ≡ recordsWords records ++ drop (length (recordsWords records)) before =
     reading.written
     ∙ ap (λ (r : LogRead). written_of long r slots ++ drop (length (written_of long r slots)) before) is
     in
+    let last : List ℕ = last_text (last_of (length input)) in
     ap (λ (r : LogRead). text_of r input after) is
-    ∙ ap (λ (l : List ℕ). header ++ lines_in 0 l after ++ last_at (last_by (Frames count) (length input)))
-    (frames_shown slots (length input) count)
-    ∙ ap (λ (l : List ℕ). header ++ lines_in 0 slots l ++ last_at (last_by (Frames count) (length input))) written
-    ∙ ap (λ (l : List ℕ). header ++ l ++ last_at (last_by (Frames count) (length input)))
+    ∙ ap (λ (l : List ℕ). header ++ lines_in 0 l after ++ last) (take_all (length slots) slots (omega arith))
+    ∙ ap (λ (l : List ℕ). header ++ lines_in 0 slots l ++ last) written
+    ∙ ap (λ (l : List ℕ). header ++ l ++ last)
     (lines_right slots _ records 0 (relied_sound relied slots) (relied.one_each slots))
-    ∙ ap (λ (l : List ℕ). header ++ lines_of (starts_from 0 slots) records ++ l) (last_right input count)
     ∙ whole_as long input false stray
 
 pub text_right : {long : Bool} (relied : Relied long) (input : List ℕ) {before after : List ℕ} {read : LogRead}

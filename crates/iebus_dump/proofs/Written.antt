@@ -8,7 +8,7 @@ use native.Mathlib.Numerals.{add-one}
 use native.Mathlib.Omega.{arith}
 use borrow.Author.Tests.{eq-eqb}
 use lib.ListN.{length, take, drop, get_or, length-drop, drop_of_length-le}
-use lib.Seq.{drop-cons, drop-drop, take_all, take-suc}
+use lib.Seq.{drop-cons, take_all, take-suc}
 use Rattle.line.specs.Choice.{pick}
 use Rattle.line.specs.Numbers.{slot_start}
 use Rattle.line.proofs.Either.{below_or_not}
@@ -110,40 +110,32 @@ no_lines : (place : ℕ) (words : List ℕ) → lines_in place [] words ≡ []
 unfolding lines_in
 no_lines place words = refl
 
--- the first lines of slots stand behind what was written before; what is left of the words begins at `next`
-pub record LinesUpTo (slots words text : List ℕ) (at place next end : ℕ) (after : List ℕ) : Type 0 where
-  pub up : UpTo text at (lines_in 0 slots words) (lines_in place (drop place slots) (drop next words)) end after
+-- the first lines of slots stand behind what was written before; `left` are the words of the records behind them
+pub record LinesUpTo (slots words text : List ℕ) (at place : ℕ) (left : List ℕ) (end : ℕ) (after : List ℕ)
+    : Type 0 where
+  pub up : UpTo text at (lines_in 0 slots words) (lines_in place (drop place slots) left) end after
 
-pub begun : (slots words text : List ℕ) (at : ℕ) → LinesUpTo slots words text at 0 0 at text
+pub begun : (slots words text : List ℕ) (at : ℕ) → LinesUpTo slots words text at 0 words at text
 begun slots words text at = record { up = up_to_none text at (lines_in 0 slots words) }
 
-pub one_more : {slots words text after later part : List ℕ} {at i next end further following : ℕ}
-    → LinesUpTo slots words text at i next end after → i < length slots
-    → part ≡ drop next words → Put after end (slot_line i (get_or slots i 0) part) further later
-    → following ≡ min (next + used_by (get_or slots i 0) part) (length words)
-    → LinesUpTo slots words text at (i + 1) following further later
-one_more {slots} {words} {text} {after} {later} {part} {at} {i} {next} {end} {further} {following}
-    up more is line goes =
-    let left : List ℕ = drop next words in
+pub one_more : {slots words text after later left : List ℕ} {at i end further used : ℕ}
+    → LinesUpTo slots words text at i left end after → i < length slots
+    → Put after end (slot_line i (get_or slots i 0) left) further later
+    → used ≡ used_by (get_or slots i 0) left
+    → LinesUpTo slots words text at (i + 1)
+    (take (length left - min used (length left)) (drop (min used (length left)) left)) further later
+one_more {slots} {words} {text} {after} {later} {left} {at} {i} {end} {further} {used} up more line is =
     let slot : ℕ = get_or slots i 0 in
-    let behind : drop (used_by slot left) left ≡ drop following words =
-    drop-drop (used_by slot left) next words
-    ∙ ap (λ (l : List ℕ). drop (next + used_by slot l) words) (sym is)
-    ∙ sym (drop_min words (next + used_by slot part)) ∙ ap (λ (n : ℕ). drop n words) (sym goes)
-    in
-    let whole : lines_in i (drop i slots) left
-    ≡ slot_line i slot part ++ lines_in (i + 1) (drop (i + 1) slots) (drop following words) =
-    next_line slots left i more
-    ∙ ap (λ (l : List ℕ). slot_line i slot left ++ lines_in (i + 1) (drop (i + 1) slots) l) behind
-    ∙ ap (λ (l : List ℕ). slot_line i slot l ++ lines_in (i + 1) (drop (i + 1) slots) (drop following words)) (sym is)
-    in
-    record { up = up_to_one (rw whole at up.up) line }
+    let rest : take (length left - min used (length left)) (drop (min used (length left)) left)
+    ≡ drop (used_by slot left) left =
+    from_place left (min used (length left)) ∙ drop_min left used ∙ ap (λ (n : ℕ). drop n left) is in
+    rw rest (record { up = up_to_one (rw (next_line slots left i more) at up.up) line })
 
-pub all_lines : {slots words text after : List ℕ} {at i next end : ℕ}
-    → LinesUpTo slots words text at i next end after → length slots ≤ i
+pub all_lines : {slots words text after left : List ℕ} {at i end : ℕ}
+    → LinesUpTo slots words text at i left end after → length slots ≤ i
     → Put text at (lines_in 0 slots words) end after
-all_lines {slots} {words} {text} {after} {at} {i} {next} {end} up over =
-    let none : lines_in i (drop i slots) (drop next words) ≡ [] =
-    ap (λ (l : List ℕ). lines_in i l (drop next words)) (drop_of_length-le slots over) ∙ no_lines i (drop next words)
+all_lines {slots} {words} {text} {after} {left} {at} {i} {end} up over =
+    let none : lines_in i (drop i slots) left ≡ [] =
+    ap (λ (l : List ℕ). lines_in i l left) (drop_of_length-le slots over) ∙ no_lines i left
     in
     up_to_all (rw none at up.up)

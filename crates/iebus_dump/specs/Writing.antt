@@ -1,15 +1,14 @@
 -- What private functions cite: a frame's line by the words of its record.
-use Rattle.std.specs.Prelude.{Bool, List, [], ◌∷◌, ◌++◌, ℕ, suc, ◌+◌, ◌*◌, ◌/◌, ◌%◌, eqb, ltb, length, take, drop, get_or}
+use Rattle.std.specs.Prelude.{Bool, List, [], ◌∷◌, ◌++◌, ℕ, suc, ◌+◌, ◌/◌, ◌%◌, Ok, Err, eqb, ltb, take, drop, get_or}
 use Rattle.line.specs.Choice.{pick}
 use Rattle.line.specs.Numbers.{slot_start}
-use Rattle.logs.specs.declared.LogRead.{LogRead}
-use Rattle.logs.specs.declared.LogRead.TheVariants.{Frames, ShortList, NoSlot}
+use Rattle.logs.specs.Log.{LogRead}
 use Rattle.logs.specs.Relied.{fields_at}
 use Rattle.text.specs.Hex.{digit_of}
-use Rattle.text.specs.declared.last.Last.TheVariants.{Short, More}
 use Rattle.text.specs.Last.{last_text}
-use Rattle.iebus_dump.specs.Line.{Frame, bit_column, line_of}
-use Rattle.iebus_dump.specs.Dump.{header, most_words, refused}
+use Rattle.pieces.specs.Pieces.{bytes_of}
+use Rattle.iebus_dump.specs.Line.{Frame, bit_column, control_name, line_of, padded}
+use Rattle.iebus_dump.specs.Dump.{header, last_of, refused}
 
 abbrev pub digit_shown : Bool → ℕ → ℕ
 digit_shown given n = pick given (digit_of n) 0x2D
@@ -18,12 +17,9 @@ digit_shown given n = pick given (digit_of n) 0x2D
 unfoldable pub kind_by : ℕ → ℕ → ℕ → List ℕ
 kind_by given bit control = bit_column given bit ++ 0x20 ∷ digit_shown (ltb 3 given) control ∷ 0x20 ∷ []
 
--- where the name of a control begins, and the end of a line behind the mark that it has or has not
-abbrev pub name_by : ℕ → ℕ → ℕ
-name_by given control = pick (ltb 3 given) (control * 13) 208
-
-abbrev pub mark_by : ℕ → ℕ
-mark_by first = pick (eqb (first / 0x10 % 2) 1) 0 7
+-- what a control asks for, if it is given
+abbrev pub name_shown : ℕ → ℕ → List ℕ
+name_shown given control = pick (ltb 3 given) (control_name control) (padded 13 (bytes_of "-"))
 
 -- how many fields the record gives that begins with this word
 abbrev pub given_by : ℕ → ℕ
@@ -69,19 +65,15 @@ unfoldable pub lines_in : ℕ → List ℕ → List ℕ → List ℕ
 lines_in place [] words = []
 lines_in place (w ∷ ws) words = slot_line place w words ++ lines_in (suc place) ws (drop (used_by w words) words)
 
--- the number of the last line, where a log was read so
-unfoldable pub last_by : LogRead → ℕ → ℕ
-last_by (Frames count) bytes = pick (ltb (most_words * 4) bytes) 1 (pick (eqb (bytes % 4) 0) 3 2)
-last_by ShortList bytes = 0
-last_by NoSlot bytes = 0
-
--- the text of the last line that has this number
-unfoldable pub last_at : ℕ → List ℕ
-last_at number = get_or (refused ∷ last_text More ∷ last_text Short ∷ [] ∷ []) number []
+-- the last line, where a log was read so
+unfoldable pub last_by : LogRead → ℕ → List ℕ
+last_by (Ok frames) bytes = last_text (last_of bytes)
+last_by (Err e) bytes = refused
 
 -- how many of so many words then have their lines printed
-abbrev pub shown_by : ℕ → ℕ → ℕ
-shown_by last count = pick (eqb last 0) 0 count
+abbrev pub shown_by : LogRead → ℕ → ℕ
+shown_by (Ok frames) count = count
+shown_by (Err e) count = 0
 
-unfoldable pub text_by : ℕ → List ℕ → List ℕ → List ℕ
-text_by last slots words = header ++ lines_in 0 slots words ++ last_at last
+unfoldable pub text_by : List ℕ → List ℕ → List ℕ → List ℕ
+text_by last slots words = header ++ lines_in 0 slots words ++ last

@@ -1,28 +1,40 @@
 // The columns of a frame's line.
-ghost use Rattle.std.specs.Prelude.{◌≡◌, ◌%◌, ◌≤◌, ◌<◌};
+ghost use Rattle.std.specs.Prelude.{◌≡◌, ◌++◌, ◌%◌, ◌<◌, [], ltb};
+ghost use Rattle.line.specs.Choice.{pick};
 ghost use Rattle.logs.specs.Relied.{fields_at};
-ghost use Rattle.iebus_dump.specs.Line.{length_column, route_column};
-ghost use Rattle.iebus_dump.specs.Writing.{digit_shown, kind_by, mark_by, name_by};
+ghost use Rattle.iebus_dump.specs.Line.{ending_column, length_column, mark_column, route_column};
+ghost use Rattle.iebus_dump.specs.Writing.{digit_shown, frame_by, kind_by, name_shown};
 
-// How many fields are given where a frame ended so; there are 11 endings.
-const GIVEN: [u8; 16] = [5, 5, 3, 4, 5, 0, 1, 2, 3, 4, 5, 0, 0, 0, 0, 0];
+use line::numbers::{
+    END_BROKEN_BIT, END_BROKEN_CONTROL, END_BROKEN_DATA, END_BROKEN_LENGTH, END_BROKEN_MASTER,
+    END_BROKEN_SLAVE, END_NAK_CONTROL, END_NAK_LENGTH, END_NAK_SLAVE, END_SHORT, END_WHOLE,
+};
 
-pub(crate) fn given(ending: usize) -> u8
+// How many fields are given where a frame ended so.
+#[tactic(auto, unfolding(logs::specs::Relied::fields_at))]
+pub(crate) fn given(ending: u32) -> u8
     requires { ending < 16 }
     ensures { result ≡ fields_at ending }
 {
-    GIVEN[ending]
+    match ending {
+        END_WHOLE | END_SHORT | END_NAK_LENGTH | END_BROKEN_DATA => 5,
+        END_NAK_CONTROL | END_BROKEN_LENGTH => 4,
+        END_NAK_SLAVE | END_BROKEN_CONTROL => 3,
+        END_BROKEN_SLAVE => 2,
+        END_BROKEN_MASTER => 1,
+        _ => 0,
+    }
 }
 
-// A capital digit of the lowest four bits, or a dash.
+// A capital digit of the lowest four bits, or a dash. A flag and no `Option`: it is the same for all digits of a field,
+// whose number is cut up first.
 pub(crate) fn digit(given: bool, n: u32) -> u8
     ensures { result ≡ digit_shown given n }
 {
-    if !given {
-        return b'-';
-    }
     let low = n % 16;
-    if low < 10 {
+    if !given {
+        b'-'
+    } else if low < 10 {
         (48 + low) as u8
     } else {
         (55 + low) as u8
@@ -68,23 +80,44 @@ pub(crate) fn kind(given: u8, bit: u32, control: u32) -> [u8; 6]
 {
     let shown = digit(3 < given, control);
     if given == 0 {
-        return [b'-', b'-', b'-', b' ', shown, b' '];
+        [b'-', b'-', b'-', b' ', shown, b' ']
+    } else if bit == 0 {
+        [b'a', b'l', b'l', b' ', shown, b' ']
+    } else {
+        [b'o', b'n', b'e', b' ', shown, b' ']
     }
-    if bit == 0 {
-        return [b'a', b'l', b'l', b' ', shown, b' '];
-    }
-    [b'o', b'n', b'e', b' ', shown, b' ']
 }
 
-// Where the name of a control begins, of those that stand one behind the other; the last is that of one not given.
-pub(crate) fn name_place(given: u8, control: u32) -> usize
+// What the controls ask for.
+static CONTROL_NAMES: [[u8; 13]; 16] = [
+    *b"status       ",
+    *b"undefined    ",
+    *b"undefined    ",
+    *b"read+lock    ",
+    *b"holder low   ",
+    *b"holder high  ",
+    *b"status+unlock",
+    *b"read         ",
+    *b"undefined    ",
+    *b"undefined    ",
+    *b"command+lock ",
+    *b"data+lock    ",
+    *b"undefined    ",
+    *b"undefined    ",
+    *b"command      ",
+    *b"data         ",
+];
+
+// What a control asks for, if it is given.
+pub(crate) fn name(given: u8, control: u32) -> &'static [u8; 13]
     requires { control < 16 }
-    ensures { (result ≡ name_by given control) × (result ≤ 208) }
+    ensures { result.now ≡ name_shown given control }
 {
     if given < 4 {
-        return 208;
+        b"-            "
+    } else {
+        &CONTROL_NAMES[control as usize]
     }
-    control as usize * 13
 }
 
 pub(crate) fn length(given: u8, length: u32) -> [u8; 4]
@@ -98,17 +131,34 @@ pub(crate) fn length(given: u8, length: u32) -> [u8; 4]
     ]
 }
 
-// Where the text of an ending begins, of those that stand one behind the other.
-pub(crate) const ENDING_PLACES: [usize; 17] = [
-    0, 7, 14, 36, 52, 67, 96, 126, 155, 178, 200, 220, 222, 224, 226, 228, 230,
-];
-
-// Where the end of the line begins, behind the mark if there is none.
-pub(crate) fn mark_place(first: u32) -> usize
-    ensures { (result ≡ mark_by first) × (result ≤ 7) }
+// How the frame ended.
+pub(crate) fn ending(ending: u32) -> &'static [u8]
+    ensures { result.now ≡ ending_column ending }
 {
-    if first / 16 % 2 == 1 {
-        return 0;
+    match ending {
+        END_WHOLE => b"  whole",
+        END_SHORT => b"  short",
+        END_NAK_SLAVE => b"  NAK at slave address",
+        END_NAK_CONTROL => b"  NAK at control",
+        END_NAK_LENGTH => b"  NAK at length",
+        END_BROKEN_BIT => b"  broken off in broadcast bit",
+        END_BROKEN_MASTER => b"  broken off in master address",
+        END_BROKEN_SLAVE => b"  broken off in slave address",
+        END_BROKEN_CONTROL => b"  broken off in control",
+        END_BROKEN_LENGTH => b"  broken off in length",
+        END_BROKEN_DATA => b"  broken off in data",
+        _ => b"  ",
     }
-    7
+}
+
+// The mark, and the end of the line.
+#[tactic(auto, unfolding(crate::specs::Line::mark_column))]
+pub(crate) fn mark(first: u32) -> &'static [u8]
+    ensures { result.now ≡ mark_column (frame_by first 0 []).again }
+{
+    if first / 0x10 % 2 == 1 {
+        b", again\n"
+    } else {
+        b"\n"
+    }
 }

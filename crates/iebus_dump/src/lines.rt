@@ -4,27 +4,22 @@ ghost use Rattle.iebus_dump.specs.Line.{bytes_column, ending_column, fields_of, 
 ghost use Rattle.pieces.specs.Pieces.{Put};
 ghost use Rattle.iebus_dump.specs.Writing.{acked_by, ahead_by, frame_by, lines_in, slot_line, used_by};
 
-use crate::columns::{ENDING_PLACES, digit, given, kind, length, mark_place, name_place, route};
+use crate::columns::{digit, ending, given, kind, length, mark, name, route};
 use line::numbers::SLOT_START;
-use pieces::{least, put};
+use pieces::put;
 
+// The word at a place of a record, 0 past its end.
 fn word(words: &[u32], at: usize) -> u32
     ensures { result ≡ get_or words.now at 0 }
 {
-    if at < words.len() {
-        return words[at];
-    }
-    0
+    words.get(at).copied().unwrap_or(0)
 }
 
 // How many words of a record stand ahead of its bytes.
 fn ahead(first: u32) -> usize
     ensures { (result ≡ ahead_by first) × (result ≤ 2) }
 {
-    if given((first % 16) as usize) < 2 {
-        return 1;
-    }
-    2
+    if given(first % 0x10) < 2 { 1 } else { 2 }
 }
 
 fn acked(first: u32) -> usize
@@ -39,20 +34,12 @@ fn put_fields(text: &mut [u8], at: usize, place: usize, first: u32, second: u32)
     requires { place < 16384 }
     ensures { Put text.old at (fields_of place (frame_by first second [])) result text.new }
 {
-    let names: &[u8] =
-        b"status       undefined    undefined    read+lock    holder low   holder high  status+unlock\
-        read         undefined    undefined    command+lock data+lock    undefined    undefined    \
-        command      data         -            ";
-    let fields = given((first % 16) as usize);
+    let fields = given(first % 0x10);
     let control = first / 0x40 % 0x10;
-    let name = name_place(fields, control);
-    let at = put(
-        text,
-        at,
-        &route(place as u32, fields, second % 0x1000, second / 0x1000),
-    );
+    let route = route(place as u32, fields, second % 0x1000, second / 0x1000);
+    let at = put(text, at, &route);
     let at = put(text, at, &kind(fields, first / 0x20 % 2, control));
-    let at = put(text, at, &names[name..name + 13]);
+    let at = put(text, at, name(fields, control));
     put(text, at, &length(fields, first / 0x400 % 0x200))
 }
 
@@ -60,15 +47,12 @@ fn put_bytes(text: &mut [u8], at: usize, bytes: &[u32]) -> usize
     ensures { Put text.old at (bytes_column bytes.now) result text.new }
 {
     let mut end = at;
-    let mut i: usize = 0;
-    while i < bytes.len() {
-        let byte = bytes[i];
+    for byte in bytes {
         end = put(
             text,
             end,
-            &[b' ', digit(true, byte / 16), digit(true, byte)],
+            &[b' ', digit(true, *byte / 16), digit(true, *byte)],
         );
-        i += 1;
     }
     end
 }
@@ -78,17 +62,8 @@ fn put_end(text: &mut [u8], at: usize, first: u32) -> usize
     ensures { Put text.old at (ending_column (first % 0x10) ++ mark_column (frame_by first 0 []).again) result
         text.new }
 {
-    let endings: &[u8] =
-        b"  whole  short  NAK at slave address  NAK at control  NAK at length  broken off in \
-        broadcast bit  broken off in master address  broken off in slave address  broken off in control  \
-        broken off in length  broken off in data          ";
-    let mark: &[u8] = b", again\n";
-    let ending = (first % 16) as usize;
-    let from = ENDING_PLACES[ending];
-    let end = ENDING_PLACES[ending + 1];
-    let at = put(text, at, &endings[from..end]);
-    let again = mark_place(first);
-    put(text, at, &mark[again..])
+    let at = put(text, at, ending(first % 0x10));
+    put(text, at, mark(first))
 }
 
 // What is written for the word at a place: a line where it is a start.
@@ -102,8 +77,8 @@ fn put_line(text: &mut [u8], at: usize, place: usize, slot: u32, words: &[u32]) 
     }
     let first = word(words, 0);
     let at = put_fields(text, at, place, first, word(words, 1));
-    let from = least(ahead(first), words.len());
-    let end = least(from + acked(first), words.len());
+    let from = ahead(first).min(words.len());
+    let end = (from + acked(first)).min(words.len());
     let at = put_bytes(text, at, &words[from..end]);
     put_end(text, at, first)
 }
@@ -125,14 +100,10 @@ pub(crate) fn put_lines(text: &mut [u8], at: usize, slots: &[u32], records: &[u3
     ensures { Put text.old at (lines_in 0 slots.now records.now) result text.new }
 {
     let mut end = at;
-    let mut next: usize = 0;
-    let mut i: usize = 0;
-    while i < slots.len() {
-        let slot = slots[i];
-        let words = &records[next..];
-        end = put_line(text, end, i, slot, words);
-        next = least(next + used(slot, words), records.len());
-        i += 1;
+    let mut words = records;
+    for (place, slot) in slots.iter().enumerate() {
+        end = put_line(text, end, place, *slot, words);
+        words = &words[used(*slot, words).min(words.len())..];
     }
     end
 }

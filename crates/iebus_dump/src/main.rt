@@ -14,7 +14,7 @@ mod columns;
 mod lines;
 mod whole;
 
-use crate::whole::{last_number, put_dump, shown};
+use crate::whole::{last_line, put_dump, shown};
 use pieces::read_full;
 use reader::read_log;
 use std::env::Env;
@@ -42,10 +42,10 @@ fn dumped(long: bool, input: &[u8], text: &mut [u8]) -> usize
     let mut slots = [0u32; MOST_WORDS];
     let mut records = [0u32; MOST_WORDS];
     let count = put_words(input, &mut slots);
-    let read = read_log(long, &slots[0..count], &mut records);
-    let last = last_number(read, input.len());
-    let end = shown(last, count);
-    put_dump(text, last, &slots[0..end], &records)
+    let read = read_log(long, &slots[..count], &mut records);
+    let last = last_line(read, input.len());
+    let end = shown(read, count);
+    put_dump(text, last, &slots[..end], &records)
 }
 
 // There is room for all of it. Where nobody reads what is printed, nothing is left to do.
@@ -53,7 +53,7 @@ fn print(rt: &impl Print, long: bool, input: &[u8], text: &mut [u8])
     requires { dump_bytes ≤ length text.old }
 {
     let count = dumped(long, input, text);
-    let _ = rt.write_all(&text[0..count]);
+    let _ = rt.write_all(&text[..count]);
 }
 
 // Mode 1 is asked for by the first argument `1`.

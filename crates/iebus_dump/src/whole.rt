@@ -1,63 +1,47 @@
 // The whole text, by what the reader said.
-ghost use Rattle.std.specs.Prelude.{◌≡◌, ◌<◌, ◌≤◌, length};
+ghost use Rattle.std.specs.Prelude.{◌≡◌, ◌≤◌, length};
 ghost use Rattle.pieces.specs.Pieces.{Put};
 ghost use Rattle.iebus_dump.specs.Writing.{last_by, shown_by, text_by};
 
 use crate::lines::put_lines;
-use logs::LogRead;
+use logs::LogError;
 use pieces::put;
 use words::WORD_BYTES;
 
 // The bytes of the words that are read.
 const MOST_BYTES: usize = 65536;
 
-// Which last line is printed, where a log was read so: `refused 16`, `more`, `short` or none.
-#[tactic(auto, unfolding(crate::specs::Writing::last_by))]
-pub(crate) fn last_number(read: LogRead, bytes: usize) -> usize
-    ensures { (result ≡ last_by read bytes) × (result < 4) }
+// The last line, where a log was read so.
+#[tactic(auto, unfolding(crate::specs::Writing::last_by, crate::specs::Dump::last_of, text::specs::Last::last_text))]
+pub(crate) fn last_line(read: Result<usize, LogError>, bytes: usize) -> &'static [u8]
+    ensures { result.now ≡ last_by read bytes }
 {
-    match read {
-        LogRead::Frames(_) => {
-            if MOST_BYTES < bytes {
-                return 1;
-            }
-            if bytes % WORD_BYTES != 0 {
-                return 2;
-            }
-            3
-        }
-        LogRead::ShortList => 0,
-        LogRead::NoSlot => 0,
+    if read.is_err() {
+        b"refused 16\n"
+    } else if MOST_BYTES < bytes {
+        b"more\n"
+    } else if bytes % WORD_BYTES != 0 {
+        b"short\n"
+    } else {
+        b""
     }
 }
 
 // How many of so many words have their lines printed: none where the log was refused.
-pub(crate) fn shown(last: usize, count: usize) -> usize
-    ensures { (result ≡ shown_by last count) × (result ≤ count) }
+pub(crate) fn shown(read: Result<usize, LogError>, count: usize) -> usize
+    ensures { (result ≡ shown_by read count) × (result ≤ count) }
 {
-    if last == 0 {
-        return 0;
-    }
-    count
+    if read.is_ok() { count } else { 0 }
 }
-
-// Where these lines begin, one behind the other.
-const LAST_PLACES: [usize; 5] = [0, 11, 16, 22, 22];
 
 // The header, the lines of the slots, whose records stand in the second list, and a last line.
 #[tactic(auto, unfolding(crate::specs::Writing::text_by))]
-pub(crate) fn put_dump(text: &mut [u8], last: usize, slots: &[u32], records: &[u32]) -> usize
-    requires { (last < 4) × (length slots.now ≤ 16384) }
-    ensures { Put text.old 0 (text_by last slots.now records.now) result text.new }
+pub(crate) fn put_dump(text: &mut [u8], last: &[u8], slots: &[u32], records: &[u32]) -> usize
+    requires { length slots.now ≤ 16384 }
+    ensures { Put text.old 0 (text_by last.now slots.now records.now) result text.new }
 {
-    let lasts: &[u8] = b"refused 16\nmore\nshort\n";
-    let from = LAST_PLACES[last];
-    let end = LAST_PLACES[last + 1];
-    let at = put(
-        text,
-        0,
-        b"start  from   to  bit control      length bytes\n",
-    );
+    let header = b"start  from   to  bit control      length bytes\n";
+    let at = put(text, 0, header);
     let at = put_lines(text, at, slots, records);
-    put(text, at, &lasts[from..end])
+    put(text, at, last)
 }

@@ -17,7 +17,6 @@ use line::numbers::{
     REFUSED_NO_SLOT, REFUSED_PULSE, REFUSED_RANGES, REFUSED_SHORT_LIST, REFUSED_WINDOW,
 };
 use loads::Loaded;
-use logs::LogRead;
 use meter::load;
 use pulses::{Measured, Range, Setting};
 use reader::read_log;
@@ -58,14 +57,12 @@ pub extern "C" fn iebus_read_log(
         records.new frames.new }
     ensures relied { Relied (long_in mode) }
 {
-    let read = read_log(mode != 0, slots, records);
-    match read {
-        LogRead::Frames(count) => {
+    match read_log(mode != 0, slots, records) {
+        Ok(count) => {
             *frames = count as u64;
             0
         }
-        LogRead::ShortList => REFUSED_SHORT_LIST as u32,
-        LogRead::NoSlot => REFUSED_NO_SLOT as u32,
+        Err(error) => error.number(),
     }
 }
 

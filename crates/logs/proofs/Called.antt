@@ -2,8 +2,7 @@
 use mathlib.Core.Path.{◌≡◌, ap, sym, ◌∙◌}
 use mathlib.Core.List.{List}
 use Prim.Native.Nat.{ℕ}
-use Rattle.logs.specs.declared.LogRead.{LogRead}
-use Rattle.logs.specs.Log.{CalledLog, ReadLog, frames_after, long_in, number_of}
+use Rattle.logs.specs.Log.{CalledLog, LogRead, ReadLog, frames_after, long_in, number_of}
 
 pub called : {mode : ℕ} {slots before : List ℕ} {r : LogRead} {after : List ℕ} (count : ℕ)
     → ReadLog (long_in mode) slots before r after → {end : LogRead} → r ≡ end

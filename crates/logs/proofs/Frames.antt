@@ -9,12 +9,13 @@ use borrow.Author.Tests.{le-ltb, lt-ltb, ltb-true}
 use lib.Dec.{eqb, ltb}
 use lib.ListN.{drop, get_or, length}
 use lib.Seq.{get_or-drop}
+use Rattle.std.specs.Prelude.{Ok, Err}
 use Rattle.line.specs.Choice.{bit_of, pick}
 use Rattle.line.specs.Numbers.{slot_idle, slot_start}
 use Rattle.logs.specs.Frames.{Low, frames_of, levels_from, stray_in}
 use Rattle.logs.specs.Log.{end_of}
 use Rattle.logs.specs.Relied.{starts_in}
-use Rattle.logs.specs.declared.LogRead.TheVariants.{Frames, ShortList, NoSlot}
+use Rattle.logs.specs.declared.LogError.TheVariants.{ShortList, NoSlot}
 
 pub stray_found : (slots : List ℕ) (i : ℕ) → 3 < get_or slots i 0 → stray_in slots ≡ true
 unfolding stray_in
@@ -94,14 +95,14 @@ frames_counted (w ∷ ws) = by (eqb w slot_start) (frames_counted ws)
 -- ---- how a reading ends
 
 module _ (room : ℕ) (slots : List ℕ) where
-  pub short_list : room < length slots → end_of room slots ≡ ShortList
+  pub short_list : room < length slots → end_of room slots ≡ Err ShortList
   unfolding end_of
   short_list short = rw (lt-ltb room (length slots) short)
 
-  pub no_slot : (i : ℕ) → length slots ≤ room → 3 < get_or slots i 0 → end_of room slots ≡ NoSlot
+  pub no_slot : (i : ℕ) → length slots ≤ room → 3 < get_or slots i 0 → end_of room slots ≡ Err NoSlot
   unfolding end_of
   no_slot i there over = rw (le-ltb room (length slots) there, stray_found slots i over)
 
-  pub all_slots : length slots ≤ room → ((i : ℕ) → get_or slots i 0 ≤ 3) → end_of room slots ≡ Frames (starts_in slots)
+  pub all_slots : length slots ≤ room → ((i : ℕ) → get_or slots i 0 ≤ 3) → end_of room slots ≡ Ok (starts_in slots)
   unfolding end_of
   all_slots there low = rw (le-ltb room (length slots) there, none_stray slots low, frames_counted slots)

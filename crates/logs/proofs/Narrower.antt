@@ -5,9 +5,10 @@ use mathlib.Core.Path.{◌≡◌, sym, ap₂, ◌∙◌}
 use Prim.Native.Nat.{ℕ, zero, suc, ◌<◌}
 use native.Mathlib.Omega.{arith}
 use lib.ListN.{get_or-map, get_or, length, length-map}
+use Rattle.std.specs.Prelude.{None}
 use Rattle.logs.specs.Frames.{frames_of}
 use Rattle.logs.specs.Readings.{Reading, equal_frames, equal_said, read_of}
-use Rattle.logs.specs.Records.{none, records_by, records_of}
+use Rattle.logs.specs.Records.{records_by, records_of}
 use Rattle.logs.specs.Relied.{Exactly, Narrower, TookSame, frame_at, mark_at, starts_in}
 use Rattle.logs.proofs.Again.{equal_exactly, said_exactly}
 use Rattle.logs.proofs.Frames.{frames_counted}
@@ -39,7 +40,7 @@ module _ (long : Bool) (slots : List ℕ) where
   unfolding records_by
   none_new zero marked = absurd (false≢true (sym (mark_first equal_frames frames) ∙ marked))
   none_new (suc i) marked =
-      let inside = mark_within equal_frames none frames (suc i) marked in
+      let inside = mark_within equal_frames None frames (suc i) marked in
       (says equal_said said_exactly i inside).always ((says equal_frames equal_exactly i inside).only marked).said
 
   lost : (i : ℕ) → mark_at (records_by equal_said long slots) (suc i) ≡ true
@@ -47,7 +48,7 @@ module _ (long : Bool) (slots : List ℕ) where
       → TookSame (frame_at long slots i) (frame_at long slots (suc i)) → ⊥
   unfolding records_by
   lost i marked unmarked took =
-      let inside = mark_within equal_said none frames (suc i) marked in
+      let inside = mark_within equal_said None frames (suc i) marked in
       let said = (says equal_said said_exactly i inside).only marked in
       let is = (says equal_frames equal_exactly i inside).always (record { said = said; took = took }) in
       false≢true (sym unmarked ∙ is)
@@ -56,7 +57,7 @@ module _ (long : Bool) (slots : List ℕ) where
   unfolding records_by
   narrower =
       record {
-        readings = readings_marked equal_frames none frames ∙ sym (readings_marked equal_said none frames);
+        readings = readings_marked equal_frames None frames ∙ sym (readings_marked equal_said None frames);
         old_first = mark_first equal_said frames;
         old_again = λ i inside. says equal_said said_exactly i (omega (arith, inside, counted));
         none_new = none_new;

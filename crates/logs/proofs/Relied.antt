@@ -7,12 +7,13 @@ use native.Mathlib.Omega.{arith}
 use borrow.Author.Tests.{eqb-true, ltb-true}
 use lib.Dec.{eqb, ltb}
 use lib.ListN.{length, length-append, length-map}
+use Rattle.std.specs.Prelude.{Option, None, Some}
 use Rattle.line.specs.Choice.{pick}
 use Rattle.line.specs.Numbers.{slot_start}
 use Rattle.logs.specs.Frames.{frames_of, levels_from}
 use Rattle.logs.specs.Relied.{Fresh, Relied, mark_at}
-use Rattle.logs.specs.Readings.{equal_frames, read_of}
-use Rattle.logs.specs.Records.{Before, none, frame, Record, again_after, marked_after, marked_by, records_by}
+use Rattle.logs.specs.Readings.{equal_frames, Reading, read_of}
+use Rattle.logs.specs.Records.{Record, again_after, marked_after, marked_by, records_by}
 use Rattle.logs.specs.Records.{records_of, words_of}
 use Rattle.logs.proofs.Again.{equal_exactly}
 use Rattle.logs.proofs.Apart.{in-range, taken_apart}
@@ -25,18 +26,18 @@ use Rattle.logs.proofs.Narrower.{narrower}
 use Rattle.logs.proofs.Readings.{Bounded, reading_bounded, record_fits}
 
 -- how many words the records of frames have
-abbrev word_count : Bool → Before → List (List ℕ) → ℕ
+abbrev word_count : Bool → Option Reading → List (List ℕ) → ℕ
 word_count long before frames = length (words_of (marked_after before (map (read_of long) frames)))
 
 -- they are no more than the list's, even with the levels at its front, which may be those of a frame before it
-words_fit : (long : Bool) (slots : List ℕ) (before : Before)
+words_fit : (long : Bool) (slots : List ℕ) (before : Option Reading)
     → length (levels_from slots) + word_count long before (frames_of slots) ≤ length slots
 unfolding frames_of levels_from marked_by words_of
 words_fit long [] before = omega arith
 words_fit long (w ∷ ws) before = by (ltb w slot_start) (eqb w slot_start) refl refl (words_fit long ws)
   where
     by : (level start : Bool) → ltb w slot_start ≡ level → eqb w slot_start ≡ start
-        → ((before : Before) → length (levels_from ws) + word_count long before (frames_of ws) ≤ length ws)
+        → ((before : Option Reading) → length (levels_from ws) + word_count long before (frames_of ws) ≤ length ws)
         → length (pick level (w ∷ levels_from ws) [])
         + word_count long before (pick start (levels_from ws ∷ frames_of ws) (frames_of ws))
         ≤ length (w ∷ ws)
@@ -44,7 +45,7 @@ words_fit long (w ∷ ws) before = by (ltb w slot_start) (eqb w slot_start) refl
     by true false l s later = omega (arith, later before)
     by false true l s later =
         let r = read_of long (levels_from ws) in
-        simp length-append (omega (arith, record_fits long (levels_from ws) (again_after before r), later (frame r)))
+        simp length-append (omega (arith, record_fits long (levels_from ws) (again_after before r), later (Some r)))
     by false false l s later = omega (arith, later before)
 
 fresh : (long : Bool) → Fresh long
@@ -59,7 +60,7 @@ bounded : (long : Bool) (slots : List ℕ) (done : List Record) (r : Record) (rs
     → records_of long slots ≡ done ++ r ∷ rs → Bounded r.reading
 unfolding records_by
 bounded long slots =
-    each_record long Bounded (λ ws. reading_bounded long (levels_from ws) (levels_low ws)) slots none
+    each_record long Bounded (λ ws. reading_bounded long (levels_from ws) (levels_low ws)) slots None
 
 pub relied : (long : Bool) → Relied long
 unfolding records_by words_of
@@ -71,13 +72,13 @@ relied long = record {
   list_end = list_end;
   begins = frames_cut;
   counted = frames_counted;
-  one_each = λ slots. marked_length none _ ∙ length-map (frames_of slots) (read_of long) ∙ frames_counted slots;
-  in_order = λ slots. marked_place long none (frames_of slots);
+  one_each = λ slots. marked_length None _ ∙ length-map (frames_of slots) (read_of long) ∙ frames_counted slots;
+  in_order = λ slots. marked_place long None (frames_of slots);
   fresh = fresh long;
   first = λ slots r rs e.
       ap (λ (l : List Record). mark_at l 0) (sym e) ∙ mark_first equal_frames (map (read_of long) (frames_of slots));
   again = λ slots done before r rs e.
-      rw (marked_next none (map (read_of long) (frames_of slots)) done before r rs e)
+      rw (marked_next None (map (read_of long) (frames_of slots)) done before r rs e)
       (equal_exactly before.reading r.reading);
   narrower = narrower long;
   sent = sent long;
@@ -89,5 +90,5 @@ relied long = record {
   ranges = λ slots done r rs e. in-range r.reading (bounded long slots done r rs e);
   apart = λ slots done r rs e. taken_apart r (bounded long slots done r rs e);
   behind = λ r rs. refl;
-  fits = λ slots. omega (arith, words_fit long slots none);
+  fits = λ slots. omega (arith, words_fit long slots None);
 }

@@ -2,7 +2,7 @@
 --   first word: ending 4, again 1, broadcast bit 1, control 4, length 9, number of ACKed bytes 6, attempts after them 6
 --   second, only where the master address is given: master 12, slave 12
 --   one for each ACKed byte: byte 8, attempts 6
-use Rattle.std.specs.Prelude.{Bool, false, List, [], ◌∷◌, ◌++◌, map, ℕ, ◌+◌, ◌*◌, ltb, length}
+use Rattle.std.specs.Prelude.{Bool, false, List, [], ◌∷◌, ◌++◌, map, ℕ, ◌+◌, ◌*◌, Option, None, Some, ltb, length}
 use Rattle.line.specs.Choice.{bit_of, pick}
 use Rattle.logs.specs.Frames.{frames_of}
 use Rattle.logs.specs.Data.{Acked}
@@ -12,31 +12,26 @@ pub record Record : Type 0 where
   pub again : Bool
   pub reading : Reading
 
--- the frame before, if there is one
-pub data Before : Type 0 where
-  none : Before
-  frame : Reading → Before
-
--- the mark of a frame, by what it is for two frames to be equal
-abbrev pub again_by : (Reading → Reading → Bool) → Before → Reading → Bool
-again_by equal none r = false
-again_by equal (frame b) r = equal b r
+-- the mark of a frame behind the one before, if there is one, by what it is for two frames to be equal
+abbrev pub again_by : (Reading → Reading → Bool) → Option Reading → Reading → Bool
+again_by equal None r = false
+again_by equal (Some b) r = equal b r
 
 -- each frame with its mark
-unfoldable pub marked_by : (Reading → Reading → Bool) → Before → List Reading → List Record
+unfoldable pub marked_by : (Reading → Reading → Bool) → Option Reading → List Reading → List Record
 marked_by equal before [] = []
 marked_by equal before (r ∷ rs) =
-    record { again = again_by equal before r; reading = r } ∷ marked_by equal (frame r) rs
+    record { again = again_by equal before r; reading = r } ∷ marked_by equal (Some r) rs
 
 -- the records of a list of slots
 unfoldable pub records_by : (Reading → Reading → Bool) → Bool → List ℕ → List Record
-records_by equal long slots = marked_by equal none (map (read_of long) (frames_of slots))
+records_by equal long slots = marked_by equal None (map (read_of long) (frames_of slots))
 
 -- the same, by what equal frames are now
-abbrev pub again_after : Before → Reading → Bool
+abbrev pub again_after : Option Reading → Reading → Bool
 again_after = again_by equal_frames
 
-abbrev pub marked_after : Before → List Reading → List Record
+abbrev pub marked_after : Option Reading → List Reading → List Record
 marked_after = marked_by equal_frames
 
 abbrev pub records_of : Bool → List ℕ → List Record

@@ -1,17 +1,17 @@
 -- What a user relies on, of every log: laws of the definitions before, told in the words of tickets 1 and 11 and by
 -- document 01's order of slots, so that a definition that says something else is refused. Bits, fields and levels are
 -- defined here again: what the laws speak of is then in one file, which is what a fingerprint takes in.
-use Rattle.std.specs.Prelude.{Bool, true, false, ◌&&◌, ◌||◌, ◌≡◌, List, [], ◌∷◌, ◌++◌, map, ℕ, zero, suc, ◌+◌, ◌*◌, ◌/◌, ◌%◌, ◌^◌, ◌<◌, ◌≤◌, min, eqb, ltb, drop, get_or, length, take}
+use Rattle.std.specs.Prelude.{Bool, true, false, ◌&&◌, ◌||◌, ◌≡◌, List, [], ◌∷◌, ◌++◌, map, ℕ, zero, suc, ◌+◌, ◌*◌, ◌/◌, ◌%◌, ◌^◌, ◌<◌, ◌≤◌, Ok, Err, Option, None, Some, min, eqb, ltb, drop, get_or, length, take}
 use Rattle.line.specs.Choice.{bit_of, pick}
 use Rattle.line.specs.Numbers.{end_broken_bit, end_broken_control, end_broken_data, end_broken_length, end_broken_master}
 use Rattle.line.specs.Numbers.{end_broken_slave, end_nak_control, end_nak_length, end_nak_slave, end_short, end_whole, slot_start}
 use Rattle.line.specs.Parity.{parity_holds}
-use Rattle.logs.specs.declared.LogRead.TheVariants.{Frames, ShortList, NoSlot}
+use Rattle.logs.specs.declared.LogError.TheVariants.{ShortList, NoSlot}
 use Rattle.logs.specs.Frames.{frames_of, levels_from}
 use Rattle.logs.specs.Data.{Acked, byte_in, counts, no_byte}
 use Rattle.logs.specs.Log.{end_of}
 use Rattle.logs.specs.Readings.{Reading, equal_said, read_of}
-use Rattle.logs.specs.Records.{Before, Record, again_after, byte_word, first_word, frame, none, records_by}
+use Rattle.logs.specs.Records.{Record, again_after, byte_word, first_word, records_by}
 use Rattle.logs.specs.Records.{records_of, record_words, second_word, words_of}
 
 -- how many words of a list are starts
@@ -25,9 +25,9 @@ remarked again [] = []
 remarked again (r ∷ rs) = record { again = again; reading = r.reading } ∷ rs
 
 -- the frame before what follows some frames
-unfoldable pub last_frame : List Reading → Before
-last_frame [] = none
-last_frame (r ∷ []) = frame r
+unfoldable pub last_frame : List Reading → Option Reading
+last_frame [] = None
+last_frame (r ∷ []) = Some r
 last_frame (r ∷ s ∷ rs) = last_frame (s ∷ rs)
 
 -- "From a start word on, the reader gives what it gives on a fresh list, save the mark of the first frame there."
@@ -242,11 +242,11 @@ Levels slots = (i : ℕ) → get_or slots i 0 < 2
 pub record Relied (long : Bool) : Type 0 where
   -- "12, ahead of it, a lent answer list shorter than the slot list"; "16, a word that is no slot word", wherever it
   -- stands; else every frame is read
-  pub short_list : (room : ℕ) (slots : List ℕ) → room < length slots → end_of room slots ≡ ShortList
+  pub short_list : (room : ℕ) (slots : List ℕ) → room < length slots → end_of room slots ≡ Err ShortList
   pub no_slot : (room : ℕ) (slots : List ℕ) (i : ℕ) → length slots ≤ room → 3 < get_or slots i 0
-      → end_of room slots ≡ NoSlot
+      → end_of room slots ≡ Err NoSlot
   pub all_slots : (room : ℕ) (slots : List ℕ) → length slots ≤ room → ((i : ℕ) → get_or slots i 0 ≤ 3)
-      → end_of room slots ≡ Frames (starts_in slots)
+      → end_of room slots ≡ Ok (starts_in slots)
   -- a frame's levels go on up to the next start or idle; "the list's end breaks a frame off as idle does"
   pub levels_end : (levels : List ℕ) (w : ℕ) (later : List ℕ) → Levels levels → 2 ≤ w
       → levels_from (levels ++ w ∷ later) ≡ levels

@@ -1,16 +1,17 @@
 -- The frame before against the frame at hand: the code's comparison is the one of the readings.
-use mathlib.Core.Bool.{Bool, true, false, ◌&&◌}
+use mathlib.Core.Bool.{true, ◌&&◌}
 use mathlib.Core.Path.{◌≡◌, refl, sym, ap, ap₂, ◌∙◌}
 use mathlib.Core.List.{List, [], ◌∷◌, map}
-use Prim.Native.Nat.{ℕ, zero, suc, ◌+◌, ◌*◌, ◌-◌, ◌/◌, ◌%◌, ◌<◌, ◌≤◌}
-use native.Mathlib.Nat.{add-zero}
+use Prim.Native.Nat.{ℕ, zero, suc, ◌+◌, ◌*◌, ◌/◌, ◌%◌, ◌<◌, ◌≤◌}
 use native.Mathlib.Omega.{arith}
-use borrow.Author.Tests.{eq-eqb, eqb-true, ne_eqb}
+use borrow.Author.Tests.{eq-eqb, eqb-true}
 use lib.Dec.{eqb}
-use lib.ListN.{get_or-eq_default, drop, get_or, length, take}
+use lib.ListN.{get_or-eq_default, drop, get_or, length}
 use lib.Seq.{ext_get_or}
+use Rattle.std.proofs.Common.{Some}
+use Rattle.std.proofs.lemmas.Bool.Decides.{same_from_decides}
+use Rattle.std.proofs.lemmas.Slice.Eq.{bytes_eq-Decides}
 use Rattle.line.proofs.Either.{both}
-use Rattle.line.proofs.Places.{cut}
 use Rattle.line.specs.Cases.{same}
 use Rattle.logs.proofs.Again.{byte_of, same_lists, same_self, took_of}
 use Rattle.logs.specs.Data.{Acked, no_byte}
@@ -18,61 +19,8 @@ use Rattle.logs.specs.Readings.{Reading, bit_in, bytes_in, control_in, equal_fra
 use Rattle.logs.specs.Readings.{slave_in, took_in}
 use Rattle.logs.specs.Records.{byte_word, second_word}
 use Rattle.reader.specs.declared.entry.Entry.{Entry}
+use Rattle.reader.specs.declared.head.Front.{Front}
 use Rattle.reader.specs.Entries.{Stands, acked_in, alike_entries, alike_fronts, bytes_from, said_of}
-
--- ---- alike_bytes
-
--- the bytes before place i are alike, each with its attempts
-pub record Compared (records : List ℕ) (a b count i : ℕ) : Type 0 where
-  pub rest : same (bytes_from records a count) (bytes_from records b count)
-      ≡ same (bytes_from records (a + i) (count - i)) (bytes_from records (b + i) (count - i))
-  pub within : i ≤ count
-
-pub compared_none : (records : List ℕ) (a b count : ℕ) → Compared records a b count 0
-compared_none records a b count =
-    let all : count - 0 ≡ count = omega arith in
-    record { rest = rw (add-zero a, add-zero b, all); within = omega arith }
-
--- the bytes from a place on: the one there, and those behind it
-next_byte : (records : List ℕ) (a count i : ℕ) → i < count → a + count ≤ length records
-    → bytes_from records (a + i) (count - i)
-    ≡ get_or records (a + i) 0 ∷ bytes_from records (a + (i + 1)) (count - (i + 1))
-next_byte records a count i more inside =
-    let one : count - i ≡ suc (count - (i + 1)) = omega arith in
-    let next : a + i + 1 ≡ a + (i + 1) = omega arith in
-    ap (λ (n : ℕ). bytes_from records (a + i) n) one
-    ∙ ap (take (suc (count - (i + 1)))) (cut records (a + i) (omega arith))
-    ∙ ap (λ (n : ℕ). get_or records (a + i) 0 ∷ bytes_from records n (count - (i + 1))) next
-
-module _ {records : List ℕ} {a b count i : ℕ} (c : Compared records a b count i) (more : i < count)
-    (first : a + count ≤ length records) (second : b + count ≤ length records) where
-  step : same (bytes_from records a count) (bytes_from records b count)
-      ≡ (eqb (get_or records (a + i) 0) (get_or records (b + i) 0)
-      && same (bytes_from records (a + (i + 1)) (count - (i + 1))) (bytes_from records (b + (i + 1)) (count - (i + 1))))
-  step = c.rest ∙ ap₂ same (next_byte records a count i more first) (next_byte records b count i more second)
-
-  pub compared_one : get_or records (a + i) 0 ≡ get_or records (b + i) 0
-      → Compared records a b count (i + 1)
-  compared_one alike = record { rest = step ∙ rw (eq-eqb _ _ alike); within = omega arith }
-
-  pub compared_here : (get_or records (a + i) 0 ≡ get_or records (b + i) 0 → ⊥)
-      → false ≡ same (bytes_from records a count) (bytes_from records b count)
-  compared_here unlike = sym (step ∙ rw (ne_eqb _ _ unlike))
-
-pub compared_all : {records : List ℕ} {a b count i : ℕ} → Compared records a b count i → count ≤ i
-    → true ≡ same (bytes_from records a count) (bytes_from records b count)
-compared_all {records} {a} {b} {count} {i} c over =
-    let none : count - i ≡ 0 = omega (arith, c.within) in
-    sym (c.rest
-    ∙ ap (λ (n : ℕ). same (bytes_from records (a + i) n) (bytes_from records (b + i) n)) none)
-
--- ---- alike
-
--- two tests that hold together come out alike
-together : (a b : Bool) → (a ≡ true → b ≡ true) → (b ≡ true → a ≡ true) → a ≡ b
-together true b f g = sym (f refl)
-together false true f g = g refl
-together false false f g = refl
 
 -- five numbers alike, and none behind them
 five : (xs ys : List ℕ) → length xs ≤ 5 → length ys ≤ 5 → get_or xs 0 0 ≡ get_or ys 0 0 → get_or xs 1 0 ≡ get_or ys 1 0
@@ -144,12 +92,16 @@ parts_alike (x ∷ xs) (y ∷ ys) bytes attempts =
     (ap₂ acked_with (ap (λ (l : List ℕ). get_or l 0 0) bytes) (ap (λ (l : List ℕ). get_or l 0 0) attempts))
     (parts_alike xs ys (ap (drop 1) bytes) (ap (drop 1) attempts))
 
--- entries with alike fronts say the same
-pub said_alike : (a b : Entry) → alike_fronts a b ≡ true → a.said ≡ b.said
-said_alike a b test =
-    let (words, addresses) = both (eqb a.given b.given && eqb a.said b.said) _ test in
-    let (many, said) = both (eqb a.given b.given) (eqb a.said b.said) words in
-    eqb-true a.said b.said said
+-- alike fronts are equal
+pub fronts_alike : (a b : Front) → alike_fronts a b ≡ true → a ≡ b
+fronts_alike a b test =
+    let (many, others) = both (eqb a.given b.given) _ test in
+    let (said, addresses) = both (eqb a.said b.said) _ others in
+    rw (eqb-true a.given b.given many, eqb-true a.said b.said said, eqb-true a.addresses b.addresses addresses) refl
+
+-- the bytes of an entry
+abbrev bytes_of : List ℕ → Entry → List ℕ
+bytes_of records entry = bytes_from records entry.bytes (acked_in entry)
 
 module _ {r s : Reading} {a b : Entry} {records : List ℕ} (p : Stands r a records) (q : Stands s b records) where
   said_told : said_of r ≡ said_of s
@@ -171,25 +123,23 @@ module _ {r s : Reading} {a b : Entry} {records : List ℕ} (p : Stands r a reco
       ext_get_or 0 s.given r.given many
       (λ i h. sym (five r.given s.given p.few q.few bit master slave control bytes i))
 
-  to : alike_entries records a b ≡ true → equal_frames r s ≡ true
+  to : alike_entries records (Some a) b ≡ true → equal_frames r s ≡ true
   unfolding alike_entries equal_frames equal_said
   to test =
-      let (fronts, bytes) = both (alike_fronts a b) _ test in
-      let (words, addresses) = both (eqb a.given b.given && eqb a.said b.said) _ fronts in
-      let (many, _) = both (eqb a.given b.given) (eqb a.said b.said) words in
-      let said = said_alike a b fronts in
-      let told = sym p.said ∙ said ∙ q.said in
-      let given = given_told (sym q.given ∙ sym (eqb-true _ _ many) ∙ p.given) told
-      (sym p.addresses ∙ eqb-true a.addresses b.addresses addresses ∙ q.addresses) in
+      let (fronts, bytes) = both (alike_fronts a.front b.front) _ test in
+      let front = fronts_alike a.front b.front fronts in
+      let told = sym p.said ∙ ap (λ (f : Front). f.said) front ∙ q.said in
+      let many = sym q.given ∙ sym (ap (λ (f : Front). f.given) front) ∙ p.given in
+      let given = given_told many told
+      (sym p.addresses ∙ ap (λ (f : Front). f.addresses) front ∙ q.addresses) in
       let acked : s.text.acked ≡ r.text.acked =
       words_apart s.text.acked r.text.acked q.bytes_low p.bytes_low
-      (sym q.bytes ∙ sym (same_lists _ _ bytes)
-      ∙ ap (λ (n : ℕ). bytes_from records a.bytes (n / 0x8_0000 % 0x40)) (sym said) ∙ p.bytes) in
+      (sym q.bytes ∙ sym ((bytes_eq-Decides (bytes_of records a) (bytes_of records b)).0 bytes) ∙ p.bytes) in
       let after = (said_told told).3 in
       rw (given, acked, ← after, same_self r.given, same_self (bytes_in r), same_self (took_in r))
       (eq-eqb r.text.unacked r.text.unacked refl)
 
-  back : equal_frames r s ≡ true → alike_entries records a b ≡ true
+  back : equal_frames r s ≡ true → alike_entries records (Some a) b ≡ true
   unfolding alike_entries equal_frames equal_said
   back equal =
       let (lists, after) = both (equal_said r s && same (took_in r) (took_in s)) _ equal in
@@ -199,25 +149,16 @@ module _ {r s : Reading} {a b : Entry} {records : List ℕ} (p : Stands r a reco
       let acked = parts_alike r.text.acked s.text.acked (same_lists (bytes_in r) (bytes_in s) bytes)
       (same_lists (took_in r) (took_in s) took) in
       let unacked = eqb-true r.text.unacked s.text.unacked after in
-      let many : a.given ≡ b.given = p.given ∙ ap length given ∙ sym q.given in
+      let many : a.front.given ≡ b.front.given = p.given ∙ ap length given ∙ sym q.given in
       let told : said_of r ≡ said_of s = rw (given, acked, unacked) in
-      let said : a.said ≡ b.said = p.said ∙ told ∙ sym q.said in
-      let addresses : a.addresses ≡ b.addresses =
+      let said : a.front.said ≡ b.front.said = p.said ∙ told ∙ sym q.said in
+      let addresses : a.front.addresses ≡ b.front.addresses =
       p.addresses ∙ ap (λ (l : List ℕ). get_or l 1 0 + get_or l 2 0 * 0x1000) given ∙ sym q.addresses
       in
-      let bytes : bytes_from records a.bytes (acked_in b) ≡ bytes_from records b.bytes (acked_in b) =
-      ap (λ (n : ℕ). bytes_from records a.bytes (n / 0x8_0000 % 0x40)) (sym said) ∙ p.bytes
-      ∙ ap (map byte_word) acked ∙ sym q.bytes
-      in
-      rw (eq-eqb _ _ many, eq-eqb _ _ said, eq-eqb _ _ addresses, bytes)
-      (same_self (bytes_from records b.bytes (acked_in b)))
+      let bytes : bytes_of records a ≡ bytes_of records b = p.bytes ∙ ap (map byte_word) acked ∙ sym q.bytes in
+      rw (eq-eqb _ _ many, eq-eqb _ _ said, eq-eqb _ _ addresses)
+      ((bytes_eq-Decides (bytes_of records a) (bytes_of records b)).1 bytes)
 
-  pub entries_alike : alike_entries records a b ≡ equal_frames r s
-  entries_alike = together (alike_entries records a b) (equal_frames r s) to back
-
--- the entry of no frame is like none
-pub none_alike : {s : Reading} (a : Entry) {b : Entry} {records : List ℕ} → 5 < a.given → Stands s b records
-    → alike_entries records a b ≡ false
-unfolding alike_entries
-none_alike {s} a {b} over q =
-    rw (ne_eqb a.given b.given (λ e. omega (arith, q.given, q.few)))
+  pub entries_alike : alike_entries records (Some a) b ≡ equal_frames r s
+  entries_alike =
+      same_from_decides (alike_entries records (Some a) b) (equal_frames r s) (to, back) ((λ e. e), (λ e. e))

@@ -1,5 +1,5 @@
 -- The header of a frame, field by field: each is broken off, gets NAK, or is read on behind.
-use mathlib.Core.Bool.{true, false, ◌&&◌}
+use mathlib.Core.Bool.{Bool, true, false, ◌&&◌}
 use mathlib.Core.Path.{◌≡◌, refl}
 use mathlib.Core.List.{List, [], ◌∷◌}
 use Prim.Native.Nat.{ℕ, ◌+◌, ◌*◌, ◌<◌, ◌≤◌}
@@ -10,7 +10,7 @@ use lib.ListN.{drop, get_or, length}
 use Rattle.line.specs.Numbers.{end_broken_bit, end_broken_control, end_broken_data, end_broken_length, end_broken_master}
 use Rattle.line.specs.Numbers.{end_broken_slave, end_nak_control, end_nak_length, end_nak_slave}
 use Rattle.logs.specs.Fields.{Field, end_in, given_in, header, length_in, nak_at, number_at, number_from, value_in}
-use Rattle.reader.specs.Heads.{Addressed, head_in, head_of}
+use Rattle.reader.specs.Heads.{head_in, head_of}
 
 -- what the fields from one on give, and how the frame ends in them
 pub record Told (fs : List Field) (levels given : List ℕ) (ending : ℕ) : Type 0 where
@@ -55,61 +55,75 @@ one_bit [] long = omega arith
 one_bit (l ∷ []) long = let same : l ≡ 0 * 2 + l = omega arith in same
 one_bit (l ∷ m ∷ levels) long = let same : l ≡ 0 * 2 + l = omega arith in same
 
-pub no_bit : (levels : List ℕ) → length levels < 1 → head_in [] end_broken_bit ≡ head_of levels
-no_bit levels short = told_head (broken_off _ _ short)
+module _ (levels : List ℕ) where
+  abbrev bit : ℕ
+  bit = get_or levels 0 0
 
-pub no_master : (levels : List ℕ) → 1 ≤ length levels → length levels < 14
-    → head_in (get_or levels 0 0 ∷ []) end_broken_master ≡ head_of levels
-no_master levels long short =
-    rw (one_bit levels long) (told_head (read_on _ _ long refl (broken_off _ _ short)))
+  abbrev master : ℕ
+  master = number_at levels 1 12
 
-module _ (levels : List ℕ) {bit master : ℕ} (is_bit : bit ≡ get_or levels 0 0) (is_master : master ≡ number_at levels 1 12)
-    (long : 14 ≤ length levels) where
-  mastered : {given : List ℕ} {ending : ℕ} → Told (drop 2 header) levels given ending
+  abbrev slave : ℕ
+  slave = number_at levels 14 12
+
+  abbrev control : ℕ
+  control = number_at levels 28 4
+
+  abbrev bytes : ℕ
+  bytes = length_in (number_at levels 34 8)
+
+  -- the A at a place is NAK
+  abbrev nak_in : ℕ → Bool
+  nak_in place = eqb bit 1 && eqb (get_or levels place 0) 1
+
+  pub no_bit : length levels < 1 → head_in [] end_broken_bit ≡ head_of levels
+  no_bit short = told_head (broken_off _ _ short)
+
+  begun : {given : List ℕ} {ending : ℕ} → 1 ≤ length levels → Told (drop 1 header) levels given ending
+      → head_in (bit ∷ given) ending ≡ head_of levels
+  begun long t = rw (one_bit levels long) (told_head (read_on _ _ long refl t))
+
+  pub no_master : 1 ≤ length levels → length levels < 14
+      → head_in (bit ∷ []) end_broken_master ≡ head_of levels
+  no_master long short = begun long (broken_off _ _ short)
+
+  mastered : {given : List ℕ} {ending : ℕ} → 14 ≤ length levels → Told (drop 2 header) levels given ending
       → head_in (bit ∷ master ∷ given) ending ≡ head_of levels
-  mastered t =
-      rw (is_bit, is_master, one_bit levels (omega arith))
-      (told_head (read_on _ _ (omega arith) refl (read_on _ _ long refl t)))
+  mastered long t = begun (omega arith) (read_on _ _ long refl t)
 
-  pub no_slave : length levels < 28 → head_in (bit ∷ master ∷ []) end_broken_slave ≡ head_of levels
-  no_slave short = mastered (broken_off _ _ short)
+  pub no_slave : 14 ≤ length levels → length levels < 28
+      → head_in (bit ∷ master ∷ []) end_broken_slave ≡ head_of levels
+  no_slave long short = mastered long (broken_off _ _ short)
 
-  pub nak_slave : {slave : ℕ} → slave ≡ number_at levels 14 12 → 28 ≤ length levels
-      → (eqb bit 1 && eqb (get_or levels 27 0) 1) ≡ true
+  pub nak_slave : 28 ≤ length levels → nak_in 27 ≡ true
       → head_in (bit ∷ master ∷ slave ∷ []) end_nak_slave ≡ head_of levels
-  nak_slave is enough nak = rw is (mastered (nak_there _ _ enough (rw is_bit at nak)))
+  nak_slave long nak = mastered (omega arith) (nak_there _ _ long nak)
 
-module _ {levels : List ℕ} {bit master slave : ℕ} (a : Addressed levels bit master slave)
-    (long : 28 ≤ length levels) where
-  addressed : {given : List ℕ} {ending : ℕ} → Told (drop 3 header) levels given ending
-      → head_in (bit ∷ master ∷ slave ∷ given) ending ≡ head_of levels
-  addressed t =
-      rw a.is_slave
-      (mastered levels a.is_bit a.is_master (omega arith) (read_on _ _ long (rw a.is_bit at a.no_nak) t))
+  module _ (long : 28 ≤ length levels) (slave_acked : nak_in 27 ≡ false) where
+    addressed : {given : List ℕ} {ending : ℕ} → Told (drop 3 header) levels given ending
+        → head_in (bit ∷ master ∷ slave ∷ given) ending ≡ head_of levels
+    addressed t = mastered (omega arith) (read_on _ _ long slave_acked t)
 
-  pub no_control : length levels < 34 → head_in (bit ∷ master ∷ slave ∷ []) end_broken_control ≡ head_of levels
-  no_control short = addressed (broken_off _ _ short)
+    pub no_control : length levels < 34
+        → head_in (bit ∷ master ∷ slave ∷ []) end_broken_control ≡ head_of levels
+    no_control short = addressed (broken_off _ _ short)
 
-  module _ {control : ℕ} (is_control : control ≡ number_at levels 28 4) (enough : 34 ≤ length levels) where
-    pub nak_control : (eqb bit 1 && eqb (get_or levels 33 0) 1) ≡ true
+    pub nak_control : 34 ≤ length levels → nak_in 33 ≡ true
         → head_in (bit ∷ master ∷ slave ∷ control ∷ []) end_nak_control ≡ head_of levels
-    nak_control nak = rw is_control (addressed (nak_there _ _ enough (rw a.is_bit at nak)))
+    nak_control enough nak = addressed (nak_there _ _ enough nak)
 
-    module _ (acked : (eqb bit 1 && eqb (get_or levels 33 0) 1) ≡ false) where
+    module _ (enough : 34 ≤ length levels) (control_acked : nak_in 33 ≡ false) where
       controlled : {given : List ℕ} {ending : ℕ} → Told (drop 4 header) levels given ending
           → head_in (bit ∷ master ∷ slave ∷ control ∷ given) ending ≡ head_of levels
-      controlled t = rw is_control (addressed (read_on _ _ enough (rw a.is_bit at acked) t))
+      controlled t = addressed (read_on _ _ enough control_acked t)
 
       pub no_length : length levels < 44
           → head_in (bit ∷ master ∷ slave ∷ control ∷ []) end_broken_length ≡ head_of levels
       no_length short = controlled (broken_off _ _ short)
 
-      module _ {bytes : ℕ} (is-length : bytes ≡ length_in (number_at levels 34 8)) (whole : 44 ≤ length levels) where
-        pub nak_length : (eqb bit 1 && eqb (get_or levels 43 0) 1) ≡ true
-            → head_in (bit ∷ master ∷ slave ∷ control ∷ bytes ∷ []) end_nak_length ≡ head_of levels
-        nak_length nak = rw is-length (controlled (nak_there _ _ whole (rw a.is_bit at nak)))
+      pub nak_length : 44 ≤ length levels → nak_in 43 ≡ true
+          → head_in (bit ∷ master ∷ slave ∷ control ∷ bytes ∷ []) end_nak_length ≡ head_of levels
+      nak_length whole nak = controlled (nak_there _ _ whole nak)
 
-        pub whole_header : (eqb bit 1 && eqb (get_or levels 43 0) 1) ≡ false
-            → head_in (bit ∷ master ∷ slave ∷ control ∷ bytes ∷ []) end_broken_data ≡ head_of levels
-        whole_header answered =
-            rw is-length (controlled (read_on _ _ whole (rw a.is_bit at answered) nothing_more))
+      pub whole_header : 44 ≤ length levels → nak_in 43 ≡ false
+          → head_in (bit ∷ master ∷ slave ∷ control ∷ bytes ∷ []) end_broken_data ≡ head_of levels
+      whole_header whole answered = controlled (read_on _ _ whole answered nothing_more)

@@ -2,6 +2,7 @@
 pub mod Parts
 pub mod Slots
 pub mod Pasting
+pub mod Endings
 pub mod Heads
 pub mod Texts
 pub mod Entries

@@ -5,23 +5,24 @@ use mathlib.Core.List.{List, [], ◌∷◌, ◌++◌, append_assoc, append-nil, 
 use Prim.Native.Nat.{ℕ, ◌+◌, ◌-◌, ◌<◌, ◌≤◌}
 use native.Mathlib.Omega.{arith}
 use borrow.Author.Tests.{eq-eqb, le-ltb, lt-ltb}
-use lib.ListN.{drop, drop_of_length-le, get_or, length, length-drop, take}
+use lib.ListN.{drop, get_or, length, length-drop, take}
 use lib.Seq.{drop-drop, length-take-le, take_at}
+use Rattle.std.proofs.Common.{Err, None, Ok, Option, Some}
 use Rattle.line.proofs.Filled.{Filled, all_filled, nothing_filled}
 use Rattle.line.proofs.Places.{cut}
 use Rattle.line.specs.Numbers.{slot_start}
 use Rattle.logs.proofs.Frames.{levels_low}
 use Rattle.logs.proofs.Readings.{record_fits}
-use Rattle.logs.specs.declared.LogRead.TheVariants.{Frames, NoSlot, ShortList}
+use Rattle.logs.specs.declared.LogError.TheVariants.{NoSlot, ShortList}
 use Rattle.logs.specs.Frames.{Low, frames_of, stray_in}
 use Rattle.logs.specs.Log.{ReadLog, end_of, written_of}
-use Rattle.logs.specs.Readings.{read_of}
-use Rattle.logs.specs.Records.{Before, again_after, frame, marked_after, marked_by, none, record_words, records_by}
+use Rattle.logs.specs.Readings.{Reading, read_of}
+use Rattle.logs.specs.Records.{again_after, marked_after, marked_by, record_words, records_by}
 use Rattle.logs.specs.Records.{records_of, words_of}
 use Rattle.reader.proofs.Pasting.{paste_behind, paste_end, paste_length}
 use Rattle.reader.proofs.Records.{record_of}
 use Rattle.reader.specs.declared.entry.Entry.{Entry}
-use Rattle.reader.specs.Entries.{acked_in}
+use Rattle.reader.specs.Entries.{EndsBy, acked_in}
 use Rattle.reader.specs.Reading.{LevelsEnd, NextStart}
 use Rattle.reader.specs.Records.{RecordPut, StandsBefore}
 use Rattle.reader.specs.Texts.{pasted}
@@ -45,40 +46,36 @@ piece_filled {whole} {first} {now} {rest} {i} piece f room =
     }
 
 -- the words of the frames from a place on, behind the frame before
-abbrev words_from : Bool → Before → List ℕ → ℕ → List ℕ
+abbrev words_from : Bool → Option Reading → List ℕ → ℕ → List ℕ
 words_from long before slots at = words_of (marked_after before (map (read_of long) (frames_of (drop at slots))))
 
-pub record SoFar (long : Bool) (slots first records : List ℕ) (frames next : ℕ) (entry : Entry) (at : ℕ) : Type 0 where
-  pub before : Before
+pub record SoFar (long : Bool) (slots first records : List ℕ) (frames next : ℕ) (entry : Option Entry)
+    (from : ℕ) : Type 0 where
+  pub before : Option Reading
   pub stands : StandsBefore before entry records
-  pub filled : Filled (words_of (records_of long slots)) first records (words_from long before slots at) next
-  pub count : length (frames_of slots) ≡ frames + length (frames_of (drop at slots))
-  pub there : at < length slots → get_or slots at 0 ≡ slot_start
-  pub ahead : next ≤ at
-  pub few : frames ≤ at
-  pub inside : at ≤ length slots
-  pub behind : entry.bytes + acked_in entry ≤ next
+  pub filled : Filled (words_of (records_of long slots)) first records (words_from long before slots from) next
+  pub count : length (frames_of slots) ≡ frames + length (frames_of (drop from slots))
+  pub ahead : next ≤ from
+  pub few : frames ≤ from
+  pub inside : from ≤ length slots
+  pub behind : EndsBy entry next
 
-pub so_far_none : (long : Bool) {slots first : List ℕ} {entry : Entry} {at : ℕ} → NextStart slots 0 at
-    → (5 < entry.given) × (acked_in entry ≡ 0) × (entry.bytes ≡ 0)
-    → SoFar long slots first first 0 0 entry at
+pub so_far_none : (long : Bool) (slots first : List ℕ) → SoFar long slots first first 0 0 None 0
 unfolding records_by
-so_far_none long {slots} {first} {entry} {at} start empty =
+so_far_none long slots first =
     record {
-      before = none;
-      stands = empty.0;
-      filled =
-          rw (← start.passed) (nothing_filled (words_of (marked_after none (map (read_of long) (frames_of slots)))) first);
-      count = omega (arith, ap length start.passed);
-      there = start.there;
+      before = None;
+      stands = tt;
+      filled = nothing_filled (words_of (records_of long slots)) first;
+      count = omega arith;
       ahead = omega arith;
       few = omega arith;
-      inside = start.within.inside;
-      behind = omega (arith, empty.1, empty.2);
+      inside = omega arith;
+      behind = tt;
     }
 
-module _ {long : Bool} {slots first records : List ℕ} {frames next : ℕ} {entry : Entry} {at : ℕ}
-    (s : SoFar long slots first records frames next entry at) (more : at < length slots)
+module _ {long : Bool} {slots first records : List ℕ} {frames next : ℕ} {entry : Option Entry} {from : ℕ}
+    (s : SoFar long slots first records frames next entry from) {at : ℕ} (start : NextStart slots from at)
     (room : length slots ≤ length first) {end : ℕ} (e : LevelsEnd slots (at + 1) end) where
   abbrev levels : List ℕ
   levels = take (end - (at + 1)) (drop (at + 1) slots)
@@ -92,19 +89,20 @@ module _ {long : Bool} {slots first records : List ℕ} {frames next : ℕ} {ent
       (omega (arith, length-drop (at + 1) slots, e.within.inside))
 
   pub record_room : next + 1 + length levels ≤ length records
-  record_room = omega (arith, levels_long, s.ahead, s.filled.long, e.within.ahead, e.within.inside)
+  record_room =
+      omega (arith, levels_long, s.ahead, s.filled.long, start.ahead, start.inside, e.within.ahead, e.within.inside)
 
   -- the frame at hand, and those behind it
-  frames_there : frames_of (drop at slots) ≡ levels ∷ frames_of (drop end slots)
+  frames_there : frames_of (drop from slots) ≡ levels ∷ frames_of (drop end slots)
   unfolding frames_of
   frames_there =
-      ap frames_of (cut slots at more)
-      ∙ simp (eq-eqb (get_or slots at 0) slot_start (s.there more))
+      start.passed ∙ ap frames_of (cut slots at start.inside)
+      ∙ simp (eq-eqb (get_or slots at 0) slot_start start.there)
       (ap₂ (λ (l : List ℕ) (ls : List (List ℕ)). l ∷ ls) e.levels e.passed)
 
-  words_there : words_from long s.before slots at
+  words_there : words_from long s.before slots from
       ≡ record_words (record_of long levels (again_after s.before (read_of long levels)))
-      ++ words_from long (frame (read_of long levels)) slots end
+      ++ words_from long (Some (read_of long levels)) slots end
   unfolding words_of marked_by
   words_there = ap (λ (ls : List (List ℕ)). words_of (marked_after s.before (map (read_of long) ls))) frames_there
 
@@ -112,59 +110,59 @@ module _ {long : Bool} {slots first records : List ℕ} {frames next : ℕ} {ent
       → RecordPut long levels next entry records newer after
       → newer.bytes + acked_in newer ≤ end
   next_ahead put =
-      omega (arith, put.ends false, record_fits long levels false, levels_long, s.ahead, e.within.ahead)
+      omega (
+        arith,
+        put.ends false,
+        record_fits long levels false,
+        levels_long,
+        s.ahead,
+        start.ahead,
+        e.within.ahead,
+      )
 
   pub so_far_one : {newer : Entry} {after : List ℕ}
       → RecordPut long levels next entry records newer after
-      → {start : ℕ} → NextStart slots end start
-      → SoFar long slots first after (frames + 1) (newer.bytes + acked_in newer) newer start
-  so_far_one {newer} {after} put {start} n =
+      → SoFar long slots first after (frames + 1) (newer.bytes + acked_in newer) (Some newer) end
+  so_far_one {newer} {after} put =
       let mark = again_after s.before (read_of long levels) in
       let words = record_words (record_of long levels mark) in
-      let fits = record_fits long levels mark in
-      let ends = put.ends mark in
       record {
-        before = frame (read_of long levels);
+        before = Some (read_of long levels);
         stands = put.stands;
         filled =
-            rw (
-              ends,
-              put.written s.before s.stands,
-              ← ap (λ (ls : List (List ℕ)). words_of
-                  (marked_after (frame (read_of long levels)) (map (read_of long) ls))) n.passed,
-            )
-            (piece_filled words (rw words_there at s.filled) (omega (arith, record_room)));
-        count = omega (arith, s.count, ap length frames_there, ap length n.passed);
-        there = n.there;
-        ahead = omega (arith, next_ahead put, n.within.ahead);
-        few = omega (arith, s.few, e.within.ahead, n.within.ahead);
-        inside = n.within.inside;
+            rw (put.ends mark, put.written s.before s.stands)
+            (piece_filled words (rw words_there at s.filled)
+            (omega (arith, record_room, record_fits long levels mark)));
+        count = omega (arith, s.count, ap length frames_there);
+        ahead = next_ahead put;
+        few = omega (arith, s.few, start.ahead, e.within.ahead);
+        inside = e.within.inside;
         behind = omega arith;
       }
 
-pub so_far_all : {long : Bool} {slots first records : List ℕ} {frames next : ℕ} {entry : Entry} {at : ℕ}
-    → SoFar long slots first records frames next entry at → length slots ≤ at → length slots ≤ length first
+pub so_far_all : {long : Bool} {slots first records : List ℕ} {frames next : ℕ} {entry : Option Entry} {from : ℕ}
+    → SoFar long slots first records frames next entry from → frames_of (drop from slots) ≡ []
+    → length slots ≤ length first
     → (frames ≡ length (frames_of slots))
     × (records ≡ words_of (records_of long slots) ++ drop (length (words_of (records_of long slots))) first)
-unfolding frames_of words_of marked_by
-so_far_all {long} {slots} {first} {records} {frames} {next} {entry} {at} s over room =
-    let none : frames_of (drop at slots) ≡ [] = ap frames_of (drop_of_length-le slots {i = at} over) in
+unfolding words_of marked_by
+so_far_all {long} {slots} {first} {records} {frames} {next} {entry} {from} s over room =
     let whole = words_of (records_of long slots) in
     let done : Filled whole first records [] next = rw (ap (λ (ls : List (List ℕ)). words_of
-    (marked_after s.before (map (read_of long) ls))) none) at s.filled in
+    (marked_after s.before (map (read_of long) ls))) over) at s.filled in
     let long-whole : length whole ≡ next =
     ap length (done.split ∙ append-nil (take next records))
     ∙ length-take-le next records (omega (arith, s.ahead, s.inside, s.filled.long)) in
-    (omega (arith, s.count, ap length none), rw long-whole (all_filled done))
+    (omega (arith, s.count, ap length over), rw long-whole (all_filled done))
 
 -- ---- read_log
 
 module _ (long : Bool) (slots before : List ℕ) where
-  pub log_short : length before < length slots → ReadLog long slots before ShortList before
+  pub log_short : length before < length slots → ReadLog long slots before (Err ShortList) before
   unfolding end_of written_of
   log_short short = record { ends = simp (lt-ltb (length before) (length slots) short); written = refl }
 
-  pub log_stray : length slots ≤ length before → stray_in slots ≡ true → ReadLog long slots before NoSlot before
+  pub log_stray : length slots ≤ length before → stray_in slots ≡ true → ReadLog long slots before (Err NoSlot) before
   unfolding end_of written_of
   log_stray room stray =
       record { ends = simp (le-ltb (length before) (length slots) room, stray); written = refl }
@@ -172,7 +170,10 @@ module _ (long : Bool) (slots before : List ℕ) where
   pub log_read : length slots ≤ length before → stray_in slots ≡ false → {count : ℕ} {after : List ℕ}
       → count ≡ length (frames_of slots)
       → after ≡ words_of (records_of long slots) ++ drop (length (words_of (records_of long slots))) before
-      → ReadLog long slots before (Frames count) after
+      → ReadLog long slots before (Ok count) after
   unfolding end_of written_of
   log_read room clean {count} {after} is put =
-      record { ends = simp (le-ltb (length before) (length slots) room, clean) (ap Frames is); written = put }
+      record {
+        ends = simp (le-ltb (length before) (length slots) room, clean) (ap (λ (n : ℕ). Ok n) is);
+        written = put;
+      }

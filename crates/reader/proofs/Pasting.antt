@@ -2,7 +2,6 @@
 use mathlib.Core.Path.{◌≡◌, sym, ap, ap₂, ◌∙◌}
 use mathlib.Core.List.{List, [], ◌∷◌, ◌++◌, append_assoc}
 use Prim.Native.Nat.{ℕ, suc, ◌+◌, ◌<◌, ◌≤◌}
-use native.Mathlib.Numerals.{add-one}
 use native.Mathlib.Omega.{arith}
 use lib.ListN.{drop, get_or, length, length-append, set, take}
 use lib.Seq.{append_snoc, drop_at, drop-cons, length-sets, length-take-le, set_at, sets-eq, take-append-le, take-take}
@@ -63,12 +62,3 @@ paste_front before front piece at inside =
     ∙ sym (append_assoc (take at before ++ front) piece (drop (place + length piece) before))
     ∙ ap (λ (l : List ℕ). l ++ drop (place + length piece) before) (append_assoc (take at before) front piece)
     ∙ ap (λ (n : ℕ). take at before ++ (front ++ piece) ++ drop n before) all
-
--- one word, and two
-pub paste_word : (before : List ℕ) (at word : ℕ) → at < length before
-    → set before at word ≡ pasted before at (word ∷ [])
-paste_word before at word room = sets-eq (word ∷ []) before at (omega arith)
-
-pub paste_words : (before : List ℕ) (at word next : ℕ) → at + 1 < length before
-    → set (set before at word) (at + 1) next ≡ pasted before at (word ∷ next ∷ [])
-paste_words before at word next room = rw (add-one at) (sets-eq (word ∷ next ∷ []) before at (omega arith))

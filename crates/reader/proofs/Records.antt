@@ -4,24 +4,26 @@ use mathlib.Core.Path.{◌≡◌, refl, sym, ap, ap₂, ◌∙◌}
 use mathlib.Core.List.{List, [], ◌∷◌, ◌++◌, map}
 use Prim.Native.Nat.{ℕ, ◌+◌, ◌<◌, ◌≤◌}
 use native.Mathlib.Omega.{arith}
-use borrow.Author.Tests.{le-ltb, lt-ltb}
 use lib.Dec.{ltb}
-use lib.ListN.{drop, length, length-append, length-map, set, take}
+use lib.ListN.{drop, length, length-append, length-map, take}
 use lib.Seq.{take_at}
 use Rattle.line.specs.Choice.{pick}
 use Rattle.logs.proofs.Readings.{Bounded, reading_bounded, record_fits}
 use Rattle.logs.specs.Fields.{Field, given_in, header, nak_at, value_in}
 use Rattle.logs.specs.Frames.{Low}
 use Rattle.logs.specs.Readings.{Reading, bit_in, control_in, data_of, length_of, master_in, read_of, slave_in}
-use Rattle.logs.specs.Records.{Before, Record, again_after, byte_word, first_word, frame, none, record_words, words_behind}
-use Rattle.reader.proofs.Entries.{entries_alike, none_alike}
+use Rattle.logs.specs.Records.{Record, again_after, byte_word, first_word, record_words, words_behind}
+use Rattle.std.proofs.Common.{Option, None, Some}
+use Rattle.reader.proofs.Endings.{numbered}
+use Rattle.reader.proofs.Entries.{entries_alike}
 use Rattle.reader.proofs.Parts.{part}
 use Rattle.reader.proofs.Pasting.{paste_before, paste_behind, paste_front, paste_length, paste_there}
-use Rattle.reader.proofs.Pasting.{paste_word, paste_words}
 use Rattle.reader.specs.declared.entry.Entry.{Entry}
+use Rattle.reader.specs.declared.head.Front.{Front}
 use Rattle.reader.specs.declared.head.Head.{Head}
 use Rattle.reader.specs.declared.text.Body.{Body}
-use Rattle.reader.specs.Entries.{Stands, acked_in, alike_entries, bytes_from, said_of}
+use Rattle.reader.specs.Endings.{ending_number}
+use Rattle.reader.specs.Entries.{EndsBy, Stands, acked_in, alike_entries, bytes_from, said_of}
 use Rattle.reader.specs.Heads.{Values, head_of}
 use Rattle.reader.specs.Records.{RecordPut, StandsBefore, entry_with, first_with, front_of, front_words}
 use Rattle.reader.specs.Texts.{Wrote, body_of, pasted}
@@ -38,19 +40,12 @@ byte_words long levels = map byte_word (read_of long levels).text.acked
 abbrev entry_in : Bool → List ℕ → ℕ → Entry
 entry_in long levels bytes = entry_with (head_of levels) (body_of (read_of long levels).text) bytes
 
-front_length : (entry : Entry) (first : ℕ) → length (front_of entry first) ≡ front_words entry.given
-front_length entry first = by (ltb entry.given 2)
+front_length : (front : Front) (first : ℕ) → length (front_of front first) ≡ front_words front.given
+front_length front first = by (ltb front.given 2)
   where
-    by : (few : Bool) → length (first ∷ pick few [] (entry.addresses ∷ [])) ≡ pick few 1 2
+    by : (few : Bool) → length (first ∷ pick few [] (front.addresses ∷ [])) ≡ pick few 1 2
     by true = refl
     by false = refl
-
-pub front_two_most : (given : ℕ) → front_words given ≤ 2
-front_two_most given = by (ltb given 2)
-  where
-    by : (few : Bool) → pick few 1 2 ≤ 2
-    by true = omega arith
-    by false = omega arith
 
 -- ---- the bytes of the records, beside a piece that is written
 
@@ -85,24 +80,19 @@ given_few (f ∷ fs) levels = by (ltb (length levels) f.end) (nak_at levels f) (
 -- the words of a record: those before the bytes, and the bytes
 record-words : (long : Bool) (levels : List ℕ) (again : Bool) (bytes : ℕ)
     → record_words (record_of long levels again)
-    ≡ front_of (entry_in long levels bytes) (first_word (record_of long levels again)) ++ byte_words long levels
+    ≡ front_of (entry_in long levels bytes).front (first_word (record_of long levels again)) ++ byte_words long levels
 unfolding record_words words_behind read_of head_of
 record-words long levels again bytes = refl
 
 words_counted : (long : Bool) (levels : List ℕ) (again : Bool)
     → length (record_words (record_of long levels again))
-    ≡ front_words (head_of levels).given + length (read_of long levels).text.acked
+    ≡ front_words (head_of levels).front.given + length (read_of long levels).text.acked
 words_counted long levels again =
     let first = first_word (record_of long levels again) in
-    let front = front_of (entry_in long levels 0) first in
+    let front = front_of (entry_in long levels 0).front first in
     let all = ap length (record-words long levels again 0) ∙ length-append front (byte_words long levels) in
     let bytes = length-map (read_of long levels).text.acked byte_word in
-    omega (arith, all, bytes, front_length (entry_in long levels 0) first)
-
--- the words before the bytes have their slots
-pub front_most : (levels : List ℕ) {head : Head} → head ≡ head_of levels → front_words head.given ≤ 1 + length levels
-front_most levels {head} is =
-    rw is (omega (arith, words_counted false levels false, record_fits false levels false))
+    omega (arith, all, bytes, front_length (entry_in long levels 0).front first)
 
 -- a record is being put from a place on: its bytes are written, behind room for the words that stand before them
 pub record Putting (long : Bool) (levels : List ℕ) (at : ℕ) (before : List ℕ) (head : Head) (front : ℕ) (body : Body)
@@ -110,7 +100,7 @@ pub record Putting (long : Bool) (levels : List ℕ) (at : ℕ) (before : List �
   pub low : Low levels
   pub room : at + 1 + length levels ≤ length before
   pub is_head : head ≡ head_of levels
-  pub is_front : front ≡ front_words head.given
+  pub is_front : front ≡ front_words head.front.given
   pub wrote : Wrote (data_of long (given_in header levels) levels) (at + front) before body middle
 
 module _ {long : Bool} {levels : List ℕ} {at : ℕ} {before : List ℕ} {head : Head} {front : ℕ} {body : Body}
@@ -146,29 +136,28 @@ module _ {long : Bool} {levels : List ℕ} {at : ℕ} {before : List ℕ} {head 
         bytes_most = bounded.bytes;
       }
 
-  said_is : entry.said ≡ said_of (read_of long levels)
+  said_is : entry.front.said ≡ said_of (read_of long levels)
   unfolding read_of head_of
-  said_is = ap (λ (e : Entry). e.said) entry_is
+  said_is = ap (λ (e : Entry). e.front.said) entry_is
 
-  pub entry_fits : (head.fields < 0x8_0000) × (body.acked ≤ 32) × (body.unacked ≤ 32)
+  pub said_fits : head.front.said < 0x8_0000
   unfolding read_of head_of
-  entry_fits = (
-    rw p.is_head (omega (arith, bounded.bit, bounded.control, bounded.bytes)),
-    omega (arith, count, bounded.acked),
-    rw written.told bounded.unacked,
-  )
+  said_fits = rw p.is_head (omega (arith, bounded.bit, bounded.control, bounded.bytes))
+
+  pub few : (body.acked ≤ 32) × (body.unacked ≤ 32)
+  few = (omega (arith, count, bounded.acked), rw written.told bounded.unacked)
 
   acked_is : acked_in entry ≡ body.acked
-  acked_is = omega (arith, entry_fits.0, entry_fits.1)
+  acked_is = omega (arith, said_fits, few.0)
 
-  front_long : (first : ℕ) → at + length (front_of entry first) ≡ at + front
-  front_long first = ap (λ (n : ℕ). at + n) (front_length entry first ∙ sym p.is_front)
+  front_long : (first : ℕ) → at + length (front_of entry.front first) ≡ at + front
+  front_long first = ap (λ (n : ℕ). at + n) (front_length entry.front first ∙ sym p.is_front)
 
   record_ends : (again : Bool)
       → at + front + acked_in entry ≡ at + length (record_words (record_of long levels again))
   record_ends again =
-      let same : front ≡ front_words (head_of levels).given =
-      p.is_front ∙ ap (λ (h : Head). front_words h.given) p.is_head in
+      let same : front ≡ front_words (head_of levels).front.given =
+      p.is_front ∙ ap (λ (h : Head). front_words h.front.given) p.is_head in
       omega (arith, words_counted long levels again, count, same, acked_is)
 
   record_room : at + front + body.acked ≤ length before
@@ -180,10 +169,10 @@ module _ {long : Bool} {levels : List ℕ} {at : ℕ} {before : List ℕ} {head 
   middle_long : length middle ≡ length before
   middle_long = ap length written.written ∙ paste_length before (byte_words long levels) (at + front) words_room
 
-  pub first_fits : (entry.said < 0x8000_0000) × (body.ending ≤ 10)
-  first_fits = (omega (arith, entry_fits.0, entry_fits.1, entry_fits.2), rw written.told bounded.ending)
+  pub first_fits : entry.front.said < 0x8000_0000
+  first_fits = omega (arith, said_fits, few.0, few.1)
 
-  pub front_fits : at + front_words head.given ≤ length middle
+  pub front_fits : at + front_words head.front.given ≤ length middle
   front_fits = omega (arith, record_room, middle_long, p.is_front)
 
   bytes_there : bytes_from middle (at + front) body.acked ≡ byte_words long levels
@@ -198,9 +187,9 @@ module _ {long : Bool} {levels : List ℕ} {at : ℕ} {before : List ℕ} {head 
   unfolding read_of head_of
   stands_middle =
       record {
-        given = ap (λ (e : Entry). e.given) entry_is;
+        given = ap (λ (e : Entry). e.front.given) entry_is;
         said = said_is;
-        addresses = ap (λ (e : Entry). e.addresses) entry_is;
+        addresses = ap (λ (e : Entry). e.front.addresses) entry_is;
         few = given_few header levels;
         values = values;
         acked_most = bounded.acked;
@@ -209,28 +198,33 @@ module _ {long : Bool} {levels : List ℕ} {at : ℕ} {before : List ℕ} {head 
         inside = omega (arith, record_room, middle_long, acked_is);
       }
 
-  first_is : (again : Bool) → first_with entry.said body.ending again ≡ first_word (record_of long levels again)
-  unfolding first_word read_of head_of
-  first_is again = rw (said_is, written.told) (omega arith)
+  ending_is : ending_number body.ending ≡ (read_of long levels).text.ending
+  ending_is = ap (λ (b : Body). ending_number b.ending) written.told ∙ numbered _ (omega (arith, bounded.ending))
 
-  module _ {first : ℕ} (again : Bool) {after : List ℕ} (is-first : first ≡ first_with entry.said body.ending again)
-      (put : after ≡ pasted middle at (front_of entry first)) where
+  first_is : (again : Bool) → first_with entry.front.said body.ending again ≡ first_word (record_of long levels again)
+  unfolding first_word
+  first_is again = rw (said_is, ending_is) (omega arith)
+
+  module _ {first : ℕ} (again : Bool) {after : List ℕ}
+      (is-first : first ≡ first_with entry.front.said body.ending again)
+      (put : after ≡ pasted middle at (front_of entry.front first)) where
     record_written : after ≡ pasted before at (record_words (record_of long levels again))
     record_written =
         let words = byte_words long levels in
-        let piece = front_of entry first in
+        let piece = front_of entry.front first in
         let ends = front_long first in
         put
         ∙ ap (λ (m : List ℕ). pasted m at piece) (written.written ∙ ap (λ (n : ℕ). pasted before n words) (sym ends))
         ∙ paste_front before piece words at (omega (arith, words_room, ends))
-        ∙ ap₂ (λ (e : Entry) (n : ℕ). pasted before at (front_of e n ++ words)) entry_is (is-first ∙ first_is again)
+        ∙ ap₂ (λ (e : Entry) (n : ℕ). pasted before at (front_of e.front n ++ words)) entry_is
+        (is-first ∙ first_is again)
         ∙ ap (pasted before at) (sym (record-words long levels again (at + front)))
 
     stands_after : Stands (read_of long levels) entry after
     stands_after =
-        let piece = front_of entry first in
+        let piece = front_of entry.front first in
         let ends = front_long first in
-        let inside : at + length piece ≤ length middle = omega (arith, front_fits, front_length entry first) in
+        let inside : at + length piece ≤ length middle = omega (arith, front_fits, front_length entry.front first) in
         let kept : bytes_from (pasted middle at piece) (at + front) (acked_in entry)
         ≡ bytes_from middle (at + front) (acked_in entry)
         = rw (← ends) (kept_behind middle piece at (acked_in entry) (omega arith)) in
@@ -265,15 +259,24 @@ module _ {long : Bool} {levels : List ℕ} {at : ℕ} {before : List ℕ} {head 
         inside = omega (arith, s.inside, middle_long);
       }
 
-  again_is : (b : Before) (old : Entry) → old.bytes + acked_in old ≤ at → StandsBefore b old before
+  again_is : (b : Option Reading) (old : Option Entry) → EndsBy old at → StandsBefore b old before
       → alike_entries middle old entry ≡ again_after b (read_of long levels)
-  again_is none old ahead stood = none_alike old stood stands_middle
-  again_is (frame r) old ahead stood = entries_alike (stands_kept ahead stood) stands_middle
+  unfolding alike_entries
+  again_is None None ahead stood = refl
+  again_is None (Some old) ahead stood = absurd stood
+  again_is (Some r) None ahead stood = absurd stood
+  again_is (Some r) (Some old) ahead stood = entries_alike (stands_kept ahead stood) stands_middle
 
-  pub record_put : {kept : Entry} → kept ≡ entry → (old : Entry) (again : Bool) → old.bytes + acked_in old ≤ at
+  -- the frame before and this one have their bytes in the middle
+  pub ends_middle : (old : Option Entry) → EndsBy old at
+      → EndsBy old (length middle) × EndsBy (Some entry) (length middle)
+  ends_middle None ahead = (tt, stands_middle.inside)
+  ends_middle (Some old) ahead = (omega (arith, front_fits), stands_middle.inside)
+
+  pub record_put : {kept : Entry} → kept ≡ entry → (old : Option Entry) (again : Bool) → EndsBy old at
       → again ≡ alike_entries middle old kept
-      → {first : ℕ} {after : List ℕ} → first ≡ first_with kept.said body.ending again
-      → after ≡ pasted middle at (front_of kept first)
+      → {first : ℕ} {after : List ℕ} → first ≡ first_with kept.front.said body.ending again
+      → after ≡ pasted middle at (front_of kept.front first)
       → RecordPut long levels at old before kept after
   record_put {kept} is-entry old again ahead is {first} {after} is-first put =
       let marked = rw is-entry at is-first in
@@ -287,23 +290,3 @@ module _ {long : Bool} {levels : List ℕ} {at : ℕ} {before : List ℕ} {head 
         stands = stands_after again marked front;
         ends = record_ends;
       })
-
--- ---- put_front
-
-module _ (entry : Entry) (first : ℕ) (records : List ℕ) (at : ℕ)
-    (room : at + front_words entry.given ≤ length records) where
-  pub front_some : at < length records
-  front_some = omega (arith, room, front_length entry first)
-
-  pub front_one : entry.given < 2 → set records at first ≡ pasted records at (front_of entry first)
-  front_one few = rw (lt-ltb entry.given 2 few) (paste_word records at first front_some)
-
-  module _ (enough : 2 ≤ entry.given) where
-    some : ltb entry.given 2 ≡ false
-    some = le-ltb entry.given 2 enough
-
-    pub front_more : at + 1 < length records
-    front_more = let fits : at + 2 ≤ length records = rw some at room in omega arith
-
-    pub front_two : set (set records at first) (at + 1) entry.addresses ≡ pasted records at (front_of entry first)
-    front_two = rw some (paste_words records at first entry.addresses front_more)

@@ -4,16 +4,15 @@ use mathlib.Core.Logic.{◌⊎◌, inl, inr, ⊎_elim}
 use mathlib.Core.Path.{◌≡◌, refl, sym, ap, ◌∙◌}
 use mathlib.Core.List.{List, [], ◌∷◌, ◌++◌, append_assoc, append-nil}
 use Prim.Native.Nat.{ℕ, zero, suc, ◌+◌, ◌*◌, ◌-◌, ◌^◌, ◌<◌, ◌≤◌}
-use native.Mathlib.Nat.{add-zero, pow-suc, zero-add}
+use native.Mathlib.Nat.{add-zero, pow-suc}
 use native.Mathlib.Numerals.{add-one}
 use native.Mathlib.Omega.{arith}
 use borrow.Author.Count.{below_more}
 use borrow.Author.Tests.{le-ltb, lt-ltb, ne_eqb}
 use lib.Bits.{and_le_l, and_le_r, bit_or, or_add_and, or_lt}
 use lib.Dec.{ltb}
-use lib.ListN.{get_or-eq_default, drop, drop_of_length-le, get_or, length, length-drop, take}
-use lib.Pow.{pow_mono, pow_pos}
-use lib.Seq.{get_or-drop, slice, slice_empty, take-suc}
+use lib.ListN.{get_or-eq_default, drop, drop_of_length-le, get_or, length, length-take, take}
+use lib.Seq.{get_or-drop, get_or-take, slice, take-suc}
 use Rattle.line.proofs.Either.{below_or_not, either}
 use Rattle.line.proofs.Places.{cut}
 use Rattle.line.specs.Numbers.{slot_idle, slot_start}
@@ -21,20 +20,17 @@ use Rattle.logs.proofs.Frames.{none_stray, stray_found}
 use Rattle.logs.specs.Fields.{number_from}
 use Rattle.logs.specs.Frames.{Low, frames_of, levels_from, stray_in}
 use Rattle.reader.proofs.Parts.{part, slice_more}
-use Rattle.reader.specs.Reading.{LevelsAhead, LevelsEnd, NextStart, Overlaid, Within}
+use Rattle.reader.specs.Reading.{LevelsAhead, LevelsEnd, Overlaid, Within}
 
 -- ---- overlaid
 
-pub overlaid_none : (slots : List ℕ) (from : ℕ) → Overlaid slots from 0 0
-overlaid_none slots from = record { most = λ k none. omega arith; fits = λ width low. pow_pos width }
-
-pub overlaid_one : {slots : List ℕ} {from digits i : ℕ} → Overlaid slots from i digits
-    → Overlaid slots from (i + 1) (bit_or digits (get_or slots (from + i) 0))
-overlaid_one {slots} {from} {digits} {i} o =
-    let word = get_or slots (from + i) 0 in
+pub overlaid_one : {words : List ℕ} {digits i : ℕ} → Overlaid words i digits
+    → Overlaid words (i + 1) (bit_or digits (get_or words i 0))
+overlaid_one {words} {digits} {i} o =
+    let word = get_or words i 0 in
     let sum = or_add_and digits word in
     record {
-      most = below_more (λ (k : ℕ). get_or slots (from + k) 0 ≤ bit_or digits word) i
+      most = below_more (λ (k : ℕ). get_or words k 0 ≤ bit_or digits word) i
           (λ k before. omega (arith, sum, and_le_r digits word, o.most k before))
           (omega (arith, sum, and_le_l digits word));
       fits = λ width low. or_lt width digits word (o.fits width (λ k before. low k (omega arith)))
@@ -43,13 +39,13 @@ overlaid_one {slots} {from} {digits} {i} o =
 
 -- ---- strays
 
-pub stray_seen : {slots : List ℕ} {digits : ℕ} → Overlaid slots 0 (length slots) digits
+pub stray_seen : {slots : List ℕ} {digits : ℕ} → Overlaid slots (length slots) digits
     → ltb slot_idle digits ≡ stray_in slots
 stray_seen {slots} {digits} o =
     ⊎_elim
     (λ (low : digits < 4). le-ltb slot_idle digits (omega arith)
     ∙ sym (none_stray slots (λ k.
-    ⊎_elim (λ (inside : k < length slots). let most = rw (zero-add k) at (o.most k inside) in omega arith)
+    ⊎_elim (λ (inside : k < length slots). omega (arith, o.most k inside))
     (λ (over : length slots ≤ k). rw (get_or-eq_default slots 0 over) (omega arith))
     (below_or_not k (length slots)))))
     (λ (high : 4 ≤ digits). lt-ltb slot_idle digits (omega arith) ∙ sym (seen high (either (stray_in slots))))
@@ -58,8 +54,8 @@ stray_seen {slots} {digits} o =
     seen : 4 ≤ digits → (stray_in slots ≡ true) ⊎ (stray_in slots ≡ false) → stray_in slots ≡ true
     seen high (inl stray) = stray
     seen high (inr none) =
-        let low : (k : ℕ) → k < length slots → get_or slots (0 + k) 0 < 2 ^ 2 =
-        λ k inside. ⊎_elim (λ low. rw (zero-add k) low)
+        let low : (k : ℕ) → k < length slots → get_or slots k 0 < 2 ^ 2 =
+        λ k inside. ⊎_elim (λ low. low)
         (λ stray. absurd (true≢false (sym (stray_found slots k (omega arith)) ∙ none)))
         (below_or_not (get_or slots k 0) 4) in
         let over : ⊥ = omega (arith, o.fits 2 low) in absurd over
@@ -70,9 +66,6 @@ pub record Searched (slots : List ℕ) (from i : ℕ) : Type 0 where
   pub within : Within slots from i
   pub passed : frames_of (drop from slots) ≡ frames_of (drop i slots)
 
-pub searched_none : (slots : List ℕ) (from : ℕ) → from ≤ length slots → Searched slots from from
-searched_none slots from h = record { within = record { ahead = omega arith; inside = h }; passed = refl }
-
 pub searched_one : {slots : List ℕ} {from i : ℕ} → Searched slots from i → i < length slots
     → (get_or slots i 0 ≡ slot_start → ⊥) → Searched slots from (i + 1)
 unfolding frames_of
@@ -82,26 +75,16 @@ searched_one {slots} {from} {i} s more other =
       passed = s.passed ∙ ap frames_of (cut slots i more) ∙ simp (ne_eqb (get_or slots i 0) slot_start other);
     }
 
-pub searched_here : {slots : List ℕ} {from i : ℕ} → Searched slots from i → get_or slots i 0 ≡ slot_start
-    → NextStart slots from i
-searched_here {slots} {from} {i} s is = record { within = s.within; passed = s.passed; there = λ _. is }
-
-pub searched_all : {slots : List ℕ} {from i : ℕ} → Searched slots from i → length slots ≤ i → NextStart slots from i
-searched_all {slots} {from} {i} s over =
-    record { within = s.within; passed = s.passed; there = λ more. omega arith }
+pub searched_all : {slots : List ℕ} {from i : ℕ} → Searched slots from i → length slots ≤ i
+    → frames_of (drop from slots) ≡ []
+unfolding frames_of
+searched_all {slots} {from} {i} s over = s.passed ∙ ap frames_of (drop_of_length-le slots {i = i} over)
 
 -- ---- levels_end
 
 pub record Followed (slots : List ℕ) (from i : ℕ) : Type 0 where
   pub searched : Searched slots from i
   pub levels : levels_from (drop from slots) ≡ slice from i slots ++ levels_from (drop i slots)
-
-pub followed_none : (slots : List ℕ) (from : ℕ) → from ≤ length slots → Followed slots from from
-followed_none slots from h =
-    record {
-      searched = searched_none slots from h;
-      levels = ap (λ (l : List ℕ). l ++ levels_from (drop from slots)) (sym (slice_empty from slots));
-    }
 
 pub followed_one : {slots : List ℕ} {from i : ℕ} → Followed slots from i → i < length slots
     → get_or slots i 0 < slot_start → Followed slots from (i + 1)
@@ -130,11 +113,6 @@ followed_ahead (suc count) {slots} {from} {i} f a =
     (followed_ahead count f (record { there = omega arith; low = λ k below. a.low k (omega arith) }))
     (omega arith) (a.low count (omega arith)))
 
--- words whose digits are those of a level are levels
-pub levels_ahead : {slots : List ℕ} {i count digits : ℕ} → i + count ≤ length slots → Overlaid slots i count digits
-    → digits < slot_start → LevelsAhead count slots i
-levels_ahead there o low = record { there = there; low = λ k below. omega (arith, o.most k below) }
-
 ended : {slots : List ℕ} {from i : ℕ} → Followed slots from i → levels_from (drop i slots) ≡ [] → LevelsEnd slots from i
 ended {slots} {from} {i} f none =
     let within = f.searched.within in
@@ -154,19 +132,22 @@ unfolding levels_from
 followed_here {slots} {from} {i} f more high =
     ended f (ap levels_from (cut slots i more) ∙ simp (le-ltb (get_or slots i 0) slot_start high))
 
-pub followed_all : {slots : List ℕ} {from i : ℕ} → Followed slots from i → length slots ≤ i → LevelsEnd slots from i
+pub followed_all : {slots : List ℕ} {from i : ℕ} → Followed slots from i → i ≡ length slots
+    → LevelsEnd slots from (length slots)
 unfolding levels_from
-followed_all {slots} {from} {i} f over = ended f (ap levels_from (drop_of_length-le slots {i = i} over))
+followed_all {slots} {from} {i} f all =
+    rw (← all) (ended f (ap levels_from (drop_of_length-le slots {i = i} (omega arith))))
 
 -- ---- number
 
-pub record Counted (levels : List ℕ) (from n i : ℕ) : Type 0 where
-  pub number : n ≡ number_from 0 (take i (drop from levels))
+-- the first so many levels make a number
+pub record Counted (levels : List ℕ) (n i : ℕ) : Type 0 where
+  pub number : n ≡ number_from 0 (take i levels)
   pub low : n < 2 ^ i
 
-pub counted_none : (levels : List ℕ) (from : ℕ) → Counted levels from 0 0
+pub counted_none : (levels : List ℕ) → Counted levels 0 0
 unfolding number_from
-counted_none levels from = record { number = refl; low = omega arith }
+counted_none levels = record { number = refl; low = omega arith }
 
 number_snoc : (n : ℕ) (levels : List ℕ) (level : ℕ)
     → number_from n (levels ++ level ∷ []) ≡ number_from n levels * 2 + level
@@ -174,24 +155,31 @@ unfolding number_from
 number_snoc n [] level = refl
 number_snoc n (l ∷ levels) level = number_snoc (n * 2 + l) levels level
 
-pub counted_one : {levels : List ℕ} {from n i : ℕ} → Counted levels from n i → Low levels → from + i < length levels
-    → Counted levels from (n * 2 + get_or levels (from + i) 0) (i + 1)
-counted_one {levels} {from} {n} {i} c low more =
-    let level = get_or levels (from + i) 0 in
-    let long = length-drop from levels in
-    let next : take (i + 1) (drop from levels) ≡ take i (drop from levels) ++ level ∷ [] =
-    ap (λ (k : ℕ). take k (drop from levels)) (add-one i)
-    ∙ take-suc (drop from levels) i 0 (omega (arith, long))
-    ∙ ap (λ (x : ℕ). take i (drop from levels) ++ x ∷ []) (get_or-drop from levels i 0)
-    in
+pub counted_one : {levels : List ℕ} {n i : ℕ} → Counted levels n i → Low levels → i < length levels
+    → Counted levels (n * 2 + get_or levels i 0) (i + 1)
+counted_one {levels} {n} {i} c low more =
+    let level = get_or levels i 0 in
+    let next : take (i + 1) levels ≡ take i levels ++ level ∷ [] = rw (add-one i) (take-suc levels i 0 more) in
     let doubled : 2 ^ (i + 1) ≡ 2 ^ i * 2 = rw (add-one i) (pow-suc 2 i) in
     record {
       number =
           ap (λ (k : ℕ). k * 2 + level) c.number
-          ∙ sym (number_snoc 0 (take i (drop from levels)) level) ∙ ap (number_from 0) (sym next);
-      low = omega (arith, c.low, low (from + i), doubled);
+          ∙ sym (number_snoc 0 (take i levels) level) ∙ ap (number_from 0) (sym next);
+      low = omega (arith, c.low, low i, doubled);
     }
 
--- twelve bits fit, and one more
-pub counted_fits : {levels : List ℕ} {from n i : ℕ} → Counted levels from n i → i ≤ 12 → n < 4096
-counted_fits {levels} {from} {n} {i} c h = omega (arith, c.low, pow_mono {i = i} {j = 12} h)
+low_part : (levels : List ℕ) (count place : ℕ) → Low levels → Low (take count (drop place levels))
+low_part levels count place low i =
+    ⊎_elim
+    (λ (below : i < count). rw (get_or-take count (drop place levels) i 0 below, get_or-drop place levels i 0)
+    (low (place + i)))
+    (λ (over : count ≤ i).
+    let past : length (take count (drop place levels)) ≤ i = omega (arith, length-take count (drop place levels)) in
+    rw (get_or-eq_default (take count (drop place levels)) 0 past) (omega arith))
+    (below_or_not i count)
+
+-- a part of levels of so few has a number
+pub few_low : (levels : List ℕ) (count place : ℕ) → Low levels → count ≤ 12
+    → (length (take count (drop place levels)) ≤ 12) × Low (take count (drop place levels))
+few_low levels count place low few =
+    (omega (arith, length-take count (drop place levels)), low_part levels count place low)

@@ -8,16 +8,17 @@ pub record Within (slots : List ℕ) (from place : ℕ) : Type 0 where
   pub ahead : from ≤ place
   pub inside : place ≤ length slots
 
--- so many words from a place on, laid over each other: no word is greater, and it has no more digits than all of them
-pub record Overlaid (slots : List ℕ) (from count digits : ℕ) : Type 0 where
-  pub most : (k : ℕ) → k < count → get_or slots (from + k) 0 ≤ digits
-  pub fits : (width : ℕ) → ((k : ℕ) → k < count → get_or slots (from + k) 0 < 2 ^ width) → digits < 2 ^ width
+-- the first so many words laid over each other: no word is greater, and it has no more digits than all of them
+pub record Overlaid (words : List ℕ) (count digits : ℕ) : Type 0 where
+  pub most : (k : ℕ) → k < count → get_or words k 0 ≤ digits
+  pub fits : (width : ℕ) → ((k : ℕ) → k < count → get_or words k 0 < 2 ^ width) → digits < 2 ^ width
 
--- the first start from a place on, or the list's end
+-- the first start from a place on
 pub record NextStart (slots : List ℕ) (from place : ℕ) : Type 0 where
-  pub within : Within slots from place
+  pub ahead : from ≤ place
+  pub inside : place < length slots
   pub passed : frames_of (drop from slots) ≡ frames_of (drop place slots)
-  pub there : place < length slots → get_or slots place 0 ≡ slot_start
+  pub there : get_or slots place 0 ≡ slot_start
 
 -- so many slots from a place on are there, and all are levels
 pub record LevelsAhead (count : ℕ) (slots : List ℕ) (place : ℕ) : Type 0 where

@@ -1,25 +1,40 @@
 // The header of a frame: the fields that are given, and how the frame ended where it did not come to its data.
-ghost use Rattle.std.specs.Prelude.{◌≡◌, ◌<◌, ◌≤◌, length};
+ghost use Rattle.std.specs.Prelude.{◌&&◌, ◌≡◌, ◌<◌, ◌≤◌, eqb, get_or, length};
 ghost use Rattle.logs.specs.Frames.{Low};
 ghost use Rattle.logs.specs.Fields.{length_in};
-ghost use Rattle.reader.specs.Heads.{Addressed, Values, head_of, head_with};
+ghost use Rattle.reader.specs.Heads.{Addressed, head_of};
 
+use crate::ending::Ending;
 use crate::levels::number;
 use crate::words::{BIT_WEIGHT, CONTROL_WEIGHT, LENGTH_WEIGHT, SLAVE_WEIGHT};
-use line::numbers::{
-    END_BROKEN_BIT, END_BROKEN_CONTROL, END_BROKEN_DATA, END_BROKEN_LENGTH, END_BROKEN_MASTER,
-    END_BROKEN_SLAVE, END_NAK_CONTROL, END_NAK_LENGTH, END_NAK_SLAVE, LENGTH_OF_ZERO,
-};
+use line::numbers::LENGTH_OF_ZERO;
 
-// How many of the five fields are given, then their values as a record's words hold them, 0 for one that is not given:
-// broadcast bit, control and length as in its first word, master and slave as in its second; and how the frame ended,
-// as far as its header tells.
+// What the words before the bytes say of a frame: how many fields are given, what its record's first word says of them
+// and, once its data is read, of the number of ACKed bytes and of the attempts after these, and its second word, 0 where
+// there is none. So few numbers are cheap to hand on to the next frame and to compare.
+#[derive(Clone, Copy, PartialEq, Eq)]
+pub struct Front {
+    pub given: u32,
+    pub said: u32,
+    pub addresses: u32,
+}
+
+impl Front {
+    fn ended(self, ending: Ending) -> Head
+        ensures { result ≡ record { front = self; ending = ending } }
+    {
+        Head {
+            front: self,
+            ending,
+        }
+    }
+}
+
+// What the header of a frame gives, and how the frame ended, as far as its header tells.
 #[derive(Clone, Copy)]
 pub struct Head {
-    pub given: u32,
-    pub fields: u32,
-    pub addresses: u32,
-    pub ending: u32,
+    pub front: Front,
+    pub ending: Ending,
 }
 
 fn length_in(byte: u32) -> u32
@@ -27,85 +42,93 @@ fn length_in(byte: u32) -> u32
     ensures { (result ≡ length_in byte) × (result ≤ 0x100) }
 {
     if byte == 0 {
-        return LENGTH_OF_ZERO as u32;
+        LENGTH_OF_ZERO as u32
+    } else {
+        byte
     }
-    byte
 }
 
-// The number of fields given, then each in its order, and the ending.
-fn header(
-    given: u32,
-    bit: u32,
-    master: u32,
-    slave: u32,
-    control: u32,
-    length: u32,
-    ending: u32,
-) -> Head
-    requires { Values bit master slave control length }
-    ensures { result ≡ head_with given bit master slave control length ending }
+// Whether the A at a place is NAK: it is 1, in a frame to one slave.
+fn is_nak(levels: &[u32], place: usize) -> bool
+    requires { place < length levels.now }
+    ensures { result ≡ (eqb (get_or levels.now 0 0) 1 && eqb (get_or levels.now place 0) 1) }
 {
-    Head {
-        given,
-        fields: bit * BIT_WEIGHT + control * CONTROL_WEIGHT + length * LENGTH_WEIGHT,
-        addresses: master + slave * SLAVE_WEIGHT,
-        ending,
-    }
+    (levels[0] == 1) & (levels[place] == 1)
 }
 
-// The header of a frame that has its slave address, and no NAK there.
-fn head_answered(levels: &[u32], bit: u32, master: u32, slave: u32) -> Head
-    requires { Low levels.now × (28 ≤ length levels.now) × Addressed levels.now bit master slave }
+// The header of a frame that has its slave address and no NAK there, from what these fields give.
+fn head_answered(levels: &[u32], addressed: Front) -> Head
+    requires { Low levels.now × (28 ≤ length levels.now) × Addressed levels.now addressed }
     ensures { result ≡ head_of levels.now }
 {
     let count = levels.len();
     if count < 34 {
-        return header(3, bit, master, slave, 0, 0, END_BROKEN_CONTROL);
+        return addressed.ended(Ending::BrokenControl);
     }
-    let control = number(levels, 28, 4);
-    if (bit == 1) & (levels[33] == 1) {
-        return header(4, bit, master, slave, control, 0, END_NAK_CONTROL);
+    let control = number(&levels[28..32]);
+    let controlled = Front {
+        given: 4,
+        said: addressed.said + control * CONTROL_WEIGHT,
+        ..addressed
+    };
+    if is_nak(levels, 33) {
+        return controlled.ended(Ending::NakControl);
     }
     if count < 44 {
-        return header(4, bit, master, slave, control, 0, END_BROKEN_LENGTH);
+        return controlled.ended(Ending::BrokenLength);
     }
-    let length = length_in(number(levels, 34, 8));
-    if (bit == 1) & (levels[43] == 1) {
-        return header(5, bit, master, slave, control, length, END_NAK_LENGTH);
+    let bytes = length_in(number(&levels[34..42]));
+    let whole = Front {
+        given: 5,
+        said: controlled.said + bytes * LENGTH_WEIGHT,
+        ..controlled
+    };
+    if is_nak(levels, 43) {
+        return whole.ended(Ending::NakLength);
     }
-    header(5, bit, master, slave, control, length, END_BROKEN_DATA)
+    whole.ended(Ending::BrokenData)
 }
 
-// The header of a frame that has its master address.
-fn head_mastered(levels: &[u32]) -> Head
-    requires { Low levels.now × (14 ≤ length levels.now) }
-    ensures { result ≡ head_of levels.now }
-{
-    let count = levels.len();
-    let bit = levels[0];
-    let master = number(levels, 1, 12);
-    if count < 28 {
-        return header(2, bit, master, 0, 0, 0, END_BROKEN_SLAVE);
-    }
-    let slave = number(levels, 14, 12);
-    if (bit == 1) & (levels[27] == 1) {
-        return header(3, bit, master, slave, 0, 0, END_NAK_SLAVE);
-    }
-    head_answered(levels, bit, master, slave)
-}
-
-// The header of a frame of these levels. A frame that has all of it and no NAK is broken off in its data, until its
-// data tells otherwise.
+// The header of a frame of these levels. A frame is broken off in the first field that is not there, and one that has
+// all of them and no NAK in its data, until its data tells otherwise.
 pub(crate) fn head_of(levels: &[u32]) -> Head
     requires { Low levels.now }
     ensures { result ≡ head_of levels.now }
 {
     let count = levels.len();
+    let none = Front {
+        given: 0,
+        said: 0,
+        addresses: 0,
+    };
     if count < 1 {
-        return header(0, 0, 0, 0, 0, 0, END_BROKEN_BIT);
+        return none.ended(Ending::BrokenBit);
     }
+    let sent = Front {
+        given: 1,
+        said: levels[0] * BIT_WEIGHT,
+        ..none
+    };
     if count < 14 {
-        return header(1, levels[0], 0, 0, 0, 0, END_BROKEN_MASTER);
+        return sent.ended(Ending::BrokenMaster);
     }
-    head_mastered(levels)
+    let master = number(&levels[1..13]);
+    let mastered = Front {
+        given: 2,
+        addresses: master,
+        ..sent
+    };
+    if count < 28 {
+        return mastered.ended(Ending::BrokenSlave);
+    }
+    let slave = number(&levels[14..26]);
+    let addressed = Front {
+        given: 3,
+        addresses: mastered.addresses + slave * SLAVE_WEIGHT,
+        ..mastered
+    };
+    if is_nak(levels, 27) {
+        return addressed.ended(Ending::NakSlave);
+    }
+    head_answered(levels, addressed)
 }

@@ -3,6 +3,7 @@
 // nothing is assumed.
 #![tactic(auto)]
 
+mod ending;
 mod entry;
 mod head;
 mod levels;
@@ -10,29 +11,15 @@ mod record;
 mod text;
 mod words;
 
-ghost use Rattle.std.specs.Prelude.{◌≡◌, ◌++◌, ◌<◌, ◌≤◌, drop, length};
+ghost use Rattle.std.specs.Prelude.{◌≡◌, ◌++◌, ◌≤◌, drop, length};
 ghost use Rattle.logs.specs.Frames.{frames_of};
 ghost use Rattle.logs.specs.Log.{ReadLog};
 ghost use Rattle.logs.specs.Relied.{Relied};
 ghost use Rattle.logs.specs.Records.{records_of, words_of};
-ghost use Rattle.reader.specs.Entries.{acked_in};
 
-use crate::entry::{Entry, acked};
 use crate::levels::{levels_end, next_start, strays};
 use crate::record::put_record;
-use logs::LogRead;
-
-// What stands for the frame before where there is none: no header gives so many fields, so no frame says it again.
-fn no_entry() -> Entry
-    ensures { (5 < result.given) × (acked_in result ≡ 0) × (result.bytes ≡ 0) }
-{
-    Entry {
-        given: 6,
-        said: 0,
-        addresses: 0,
-        bytes: 0,
-    }
-}
+use logs::LogError;
 
 // Writes the record of every frame, one behind the other; the number says how many there are.
 fn put_records(long: bool, slots: &[u32], records: &mut [u32]) -> usize
@@ -41,31 +28,32 @@ fn put_records(long: bool, slots: &[u32], records: &mut [u32]) -> usize
     ensures records_after { records.new ≡ words_of (records_of long slots.now)
         ++ drop (length (words_of (records_of long slots.now))) records.old }
 {
-    let mut frames: usize = 0;
-    let mut next: usize = 0;
-    let mut before = no_entry();
-    let mut at = next_start(slots, 0);
-    while at < slots.len() {
-        let end = levels_end(slots, at + 1);
-        before = put_record(long, &slots[at + 1..end], records, next, before);
-        next = before.bytes + acked(before);
+    let mut frames = 0;
+    let mut next = 0;
+    let mut before = None;
+    let mut from = 0;
+    while let Some(start) = next_start(slots, from) {
+        let end = levels_end(slots, start + 1);
+        let entry = put_record(long, &slots[start + 1..end], records, next, before);
+        next = entry.bytes + entry.acked();
+        before = Some(entry);
         frames += 1;
-        at = next_start(slots, end);
+        from = end;
     }
     frames
 }
 
 // Reads a log. `long` is mode 1, with 32 attempts. The records go to the front of the list, one behind the other;
 // places past them keep their contents, and so does the whole list where the log is refused.
-pub fn read_log(long: bool, slots: &[u32], records: &mut [u32]) -> LogRead
+pub fn read_log(long: bool, slots: &[u32], records: &mut [u32]) -> Result<usize, LogError>
     ensures whole { ReadLog long slots.now records.old result records.new }
     ensures relied { Relied long }
 {
     if records.len() < slots.len() {
-        return LogRead::ShortList;
+        return Err(LogError::ShortList);
     }
     if strays(slots) {
-        return LogRead::NoSlot;
+        return Err(LogError::NoSlot);
     }
-    LogRead::Frames(put_records(long, slots, records))
+    Ok(put_records(long, slots, records))
 }

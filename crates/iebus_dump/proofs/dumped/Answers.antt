@@ -8,52 +8,21 @@ use Rattle.pieces.proofs.Pieces.{front, named}
 use Rattle.iebus_dump.proofs.Texts.{slots_made, text_made, text_right}
 use Rattle.iebus_dump.proofs.dumped.Goals as goal
 
-pub returns-clause-count : goal.returns-clause-count
+pub returns : goal.returns
 unfolding dump_of
-returns-clause-count c =
+returns c =
     let places : length (replicate most_words zero) ≡ most_words = length-replicate {0} {A = ℕ} most_words 0 in
-    let is = slots_made c.args.input.now c.put_words-count.new.words _ c.put_words-count.ensures.count places c.put_words-count.ensures.written in
-    let made =
-    text_made c.read_log-read.result c.args.input.now c.put_words-count.new.words c.read_log-read.new.records c.put_words-count.ensures.count places is
-    c.last_number-last.ensures.0 c.shown-end.ensures.0 c.shown-end.ensures.1
-    in
-    let right =
-    text_right c.read_log-read.ensures.relied c.args.input.now (rw is at c.read_log-read.ensures.whole) (omega (arith, places))
-    in
+    let is = slots_made c.args.input.now c.put_words-count.new.words _ c.put_words-count.ensures.count places
+    c.put_words-count.ensures.written in
+    let made = text_made c.read_log-read.result c.args.input.now c.put_words-count.new.words
+    c.read_log-read.new.records _ c.put_words-count.ensures.count places is c.last_line-last.ensures
+    c.shown-end.ensures.0 c.shown-end.ensures.1 in
+    let right = text_right c.read_log-read.ensures.relied c.args.input.now
+    (rw is at c.read_log-read.ensures.whole) (omega (arith, places)) in
     let dump = front (named c.put_dump.ensures (made ∙ right)) in
-    dump.count
-
-pub returns-clause-written : goal.returns-clause-written
-unfolding dump_of
-returns-clause-written c =
-    let places : length (replicate most_words zero) ≡ most_words = length-replicate {0} {A = ℕ} most_words 0 in
-    let is = slots_made c.args.input.now c.put_words-count.new.words _ c.put_words-count.ensures.count places c.put_words-count.ensures.written in
-    let made =
-    text_made c.read_log-read.result c.args.input.now c.put_words-count.new.words c.read_log-read.new.records c.put_words-count.ensures.count places is
-    c.last_number-last.ensures.0 c.shown-end.ensures.0 c.shown-end.ensures.1
-    in
-    let right =
-    text_right c.read_log-read.ensures.relied c.args.input.now (rw is at c.read_log-read.ensures.whole) (omega (arith, places))
-    in
-    let dump = front (named c.put_dump.ensures (made ∙ right)) in
-    dump.written
-
-pub returns-clause-within : goal.returns-clause-within
-unfolding dump_of
-returns-clause-within c =
-    let places : length (replicate most_words zero) ≡ most_words = length-replicate {0} {A = ℕ} most_words 0 in
-    let is = slots_made c.args.input.now c.put_words-count.new.words _ c.put_words-count.ensures.count places c.put_words-count.ensures.written in
-    let made =
-    text_made c.read_log-read.result c.args.input.now c.put_words-count.new.words c.read_log-read.new.records c.put_words-count.ensures.count places is
-    c.last_number-last.ensures.0 c.shown-end.ensures.0 c.shown-end.ensures.1
-    in
-    let right =
-    text_right c.read_log-read.ensures.relied c.args.input.now (rw is at c.read_log-read.ensures.whole) (omega (arith, places))
-    in
-    let dump = front (named c.put_dump.ensures (made ∙ right)) in
-    dump.within
-
-pub returns-clause-fits : goal.returns-clause-fits
-unfolding dump_of
-returns-clause-fits c =
-    fits c.read_log-read.ensures.relied c.args.input.now
+    record {
+      count = dump.count;
+      written = dump.written;
+      within = dump.within;
+      fits = fits c.read_log-read.ensures.relied c.args.input.now;
+    }

@@ -3,8 +3,8 @@ use lib.ListN.{length}
 use Rattle.reader.proofs.Log.{SoFar}
 use Rattle.reader.proofs.put_records.Given as goal
 
-abbrev pub invariant-loop-at : goal.invariant-loop-at
-invariant-loop-at l = SoFar l.long l.slots l.initial.records l.records l.frames l.next l.before l.at
+abbrev pub invariant-loop-start : goal.invariant-loop-start
+invariant-loop-start l = SoFar l.long l.slots l.initial.records l.records l.frames l.next l.before l.from
 
-abbrev pub decreases-loop-at : goal.decreases-loop-at
-decreases-loop-at l = length l.slots - l.at
+abbrev pub decreases-loop-start : goal.decreases-loop-start
+decreases-loop-start l = length l.slots - l.from

@@ -1,13 +1,7 @@
-use borrow.Author.Tests.{ne_eqb}
-use Rattle.pieces.proofs.Pieces.{named, nothing, then}
+use Rattle.pieces.proofs.Pieces.{named, then}
 use Rattle.iebus_dump.proofs.Written.{line_made, part_cut}
 use Rattle.iebus_dump.specs.Writing.{slot_line}
 use Rattle.iebus_dump.proofs.lines.put_line.Goals as goal
-
-pub returns-then-slot-ne-SLOT_START : goal.returns-then-slot-ne-SLOT_START
-unfolding slot_line
-returns-then-slot-ne-SLOT_START c =
-    named (nothing c.args.text.now c.args.at) (simp (ne_eqb _ _ c.if-slot-ne-SLOT_START.true))
 
 pub returns : goal.returns
 unfolding slot_line
@@ -18,8 +12,8 @@ returns c =
     (line_made c.args.place c.args.slot c.args.words.now c.if-slot-ne-SLOT_START.false
     c.word-first.ensures c.word.ensures
     (rw (
-      c.least-end.ensures,
-      c.least-from.ensures,
+      c.min-end.ensures,
+      c.min-from.ensures,
       c.acked.ensures.0,
       c.ahead.ensures.0,
     ) (part_cut c.args.words.now _ _)))

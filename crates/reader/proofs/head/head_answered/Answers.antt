@@ -1,38 +1,54 @@
-use mathlib.Core.Path.{◌∙◌, ap}
-use Rattle.logs.specs.Fields.{length_in}
+use mathlib.Core.Path.{sym}
+use native.Mathlib.Nat.{add-zero}
+use native.Mathlib.Omega.{arith}
 use Rattle.reader.proofs.Heads.{nak_control, nak_length, no_control, no_length, whole_header}
+use Rattle.reader.proofs.Slots.{few_low}
 use Rattle.reader.proofs.head.head_answered.Goals as goal
 
 pub returns-then-count-lt34 : goal.returns-then-count-lt34
 returns-then-count-lt34 c =
-    c.header.ensures ∙ no_control c.requires.2 c.requires.1 c.if-count-lt34.true
+    rw (c.ended.ensures, c.requires.2.is_front)
+    (simp add-zero at (no_control _ c.requires.1 c.requires.2.no_nak c.if-count-lt34.true))
 
-pub returns-then-bit-levels : goal.returns-then-bit-levels
-returns-then-bit-levels c =
-    c.header-then-bit-levels.ensures
-    ∙ nak_control c.requires.2 c.requires.1
-    c.number-control.ensures.0 c.if-count-lt34.false c.if-bit-levels.true
+pub number-control-requires : goal.number-control-requires
+number-control-requires c =
+    few_low _ 4 28 c.requires.0 (omega arith)
+
+pub returns-then-is_nak : goal.returns-then-is_nak
+returns-then-is_nak c =
+    rw (c.ended-then-is_nak.ensures, c.requires.2.is_front, c.number-control.ensures.0)
+    (simp add-zero at (nak_control _ c.requires.1 c.requires.2.no_nak c.if-count-lt34.false (sym c.if-is_nak.ensures)))
 
 pub returns-then-count-lt44 : goal.returns-then-count-lt44
 returns-then-count-lt44 c =
-    c.header-then-count-lt44.ensures
-    ∙ no_length c.requires.2 c.requires.1
-    c.number-control.ensures.0 c.if-count-lt34.false c.if-bit-levels.false c.if-count-lt44.true
+    rw (c.ended-then-count-lt44.ensures, c.requires.2.is_front, c.number-control.ensures.0)
+    (simp add-zero at (no_length _ c.requires.1 c.requires.2.no_nak c.if-count-lt34.false (sym c.if-is_nak.ensures)
+    c.if-count-lt44.true))
 
-pub returns-then-bit-levels-2 : goal.returns-then-bit-levels-2
-returns-then-bit-levels-2 c =
-    let bytes = c.length_in-length.ensures.0
-    ∙ ap length_in c.number.ensures.0 in
-    c.header-then-bit-levels-2.ensures
-    ∙ nak_length c.requires.2 c.requires.1
-    c.number-control.ensures.0 c.if-count-lt34.false c.if-bit-levels.false bytes
-    c.if-count-lt44.false c.if-bit-levels-2.true
+pub number-requires : goal.number-requires
+number-requires c =
+    few_low _ 8 34 c.requires.0 (omega arith)
+
+pub returns-then-is_nak-2 : goal.returns-then-is_nak-2
+returns-then-is_nak-2 c =
+    rw (
+      c.ended-then-is_nak-2.ensures,
+      c.requires.2.is_front,
+      c.number-control.ensures.0,
+      c.length_in-bytes.ensures.0,
+      c.number.ensures.0,
+    )
+    (nak_length _ c.requires.1 c.requires.2.no_nak c.if-count-lt34.false (sym c.if-is_nak.ensures)
+    c.if-count-lt44.false (sym c.if-is_nak-2.ensures))
 
 pub returns : goal.returns
 returns c =
-    let bytes = c.length_in-length.ensures.0
-    ∙ ap length_in c.number.ensures.0 in
-    c.header-2.ensures
-    ∙ whole_header c.requires.2 c.requires.1
-    c.number-control.ensures.0 c.if-count-lt34.false c.if-bit-levels.false bytes
-    c.if-count-lt44.false c.if-bit-levels-2.false
+    rw (
+      c.ended-2.ensures,
+      c.requires.2.is_front,
+      c.number-control.ensures.0,
+      c.length_in-bytes.ensures.0,
+      c.number.ensures.0,
+    )
+    (whole_header _ c.requires.1 c.requires.2.no_nak c.if-count-lt34.false (sym c.if-is_nak.ensures)
+    c.if-count-lt44.false (sym c.if-is_nak-2.ensures))

@@ -1,9 +1,5 @@
-use Prim.Native.Nat.{◌-◌, ◌≤◌}
 use Rattle.reader.proofs.Slots.{Counted}
 use Rattle.reader.proofs.levels.number.Given as goal
 
-abbrev pub invariant-loop-i : goal.invariant-loop-i
-invariant-loop-i l = (l.i ≤ l.width) × Counted l.levels l.from l.n l.i
-
-abbrev pub decreases-loop-i : goal.decreases-loop-i
-decreases-loop-i l = l.width - l.i
+abbrev pub invariant-loop-level : goal.invariant-loop-level
+invariant-loop-level l = Counted l.levels l.n l.level-index

@@ -1,31 +1,16 @@
-use native.Mathlib.Omega.{arith}
-use mathlib.Core.List.{[]}
-use mathlib.Core.Path.{refl}
-use borrow.Author.Tests.{ltb-true}
-use lib.Dec.{eqb, ltb}
-use lib.ListN.{length}
-use lib.Seq.{paste-zero}
-use Rattle.line.proofs.Either.{both}
-use Rattle.reader.proofs.Texts.{data_none, data_text}
+use Rattle.reader.proofs.Texts.{data_text, no_body}
 use Rattle.reader.proofs.record.put_data.Goals as goal
 
-pub put_text-requires-clause-low : goal.put_text-requires-clause-low
-put_text-requires-clause-low c =
-    let long = length c.args.levels.now in
-    let tests = both (eqb c.args.head.ending 10) (ltb 44 long) c.if-ending-levels.true in
-    let begun = ltb-true 44 long tests.1 in
-    (c.requires.low.0, omega arith, c.most_attempts.ensures.1)
+pub returns-then-levels-le-DATA_PLACE : goal.returns-then-levels-le-DATA_PLACE
+returns-then-levels-le-DATA_PLACE c =
+    no_body _ _ c.requires.low.1 (λ _. c.if-levels-le-DATA_PLACE.true) _ _
 
-pub put_text-requires-clause-levels_bound : goal.put_text-requires-clause-levels_bound
-put_text-requires-clause-levels_bound c =
-    c.requires.levels_bound
-
-pub returns-then-ending-levels : goal.returns-then-ending-levels
-returns-then-ending-levels c =
-    rw (← data_text c.args.long c.args.levels.now c.requires.low.0 c.requires.low.1 c.if-ending-levels.true c.most_attempts.ensures.0)
+pub returns-in-BrokenData : goal.returns-in-BrokenData
+returns-in-BrokenData c =
+    rw (← data_text c.args.long c.args.levels.now c.requires.low.1 c.requires.low.0 c.in-BrokenData.is c.if-levels-le-DATA_PLACE.false
+    c.most_attempts-most.ensures.0)
     c.put_text.ensures
 
-pub returns : goal.returns
-returns c =
-    rw (← data_none c.args.long c.args.levels.now c.requires.low.0 c.requires.low.1 c.if-ending-levels.false)
-    (record { told = refl; written = paste-zero c.args.records.now c.args.at [] })
+pub returns-in_default : goal.returns-in_default
+returns-in_default c =
+    no_body _ _ c.requires.low.1 (λ e. absurd (c.in_default.not-BrokenData e)) _ _

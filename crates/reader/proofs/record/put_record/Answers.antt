@@ -1,6 +1,5 @@
-use native.Mathlib.Omega.{arith}
-use Rattle.reader.proofs.Records.{Putting, entry_fits, first_fits, front_fits, front_most, front_two_most}
-use Rattle.reader.proofs.Records.{record_put, stands_middle}
+use Rattle.reader.proofs.Records.{Putting, ends_middle, first_fits, front_fits, few, said_fits}
+use Rattle.reader.proofs.Records.{record_put}
 use Rattle.reader.proofs.record.put_record.Goals as goal
 use Rattle.reader.proofs.record.put_record.Goals.{After-put_data-body}
 
@@ -17,32 +16,19 @@ module _ (c : After-put_data-body) where
         wrote = c.put_data-body.ensures;
       }
 
-pub overflow_add-bytes : goal.overflow_add-bytes
-overflow_add-bytes c =
-    let most = front_most c.args.levels.now c.head_of-head.ensures in
-    omega (arith, c.front_words.ensures, most, c.requires.low.1)
-
-pub put_data-body-requires-clause-low : goal.put_data-body-requires-clause-low
-put_data-body-requires-clause-low c =
-    (c.requires.low.0, c.head_of-head.ensures)
-
-pub put_data-body-requires-clause-levels_bound : goal.put_data-body-requires-clause-levels_bound
-put_data-body-requires-clause-levels_bound c =
-    let few = front_two_most c.head_of-head.result.given in
-    omega (arith, c.front_words.ensures, few, c.requires.low.1)
-
 pub entry_of-entry-requires : goal.entry_of-entry-requires
 entry_of-entry-requires c =
-    entry_fits (putting (goal.at.entry_of-entry-requires c).After-put_data-body)
+    let putting = putting (goal.at.entry_of-entry-requires c).After-put_data-body in
+    let (acked, unacked) = few putting in (said_fits putting, acked, unacked)
 
 pub alike-again-requires : goal.alike-again-requires
 alike-again-requires c =
-    let inside = (stands_middle (putting (goal.at.alike-again-requires c).After-put_data-body)).inside in
-    rw c.entry_of-entry.ensures (omega (arith, inside, c.requires.before_bound), inside)
+    rw c.entry_of-entry.ensures
+    (ends_middle (putting (goal.at.alike-again-requires c).After-put_data-body) c.args.before c.requires.before_bound)
 
-pub first_word-requires : goal.first_word-requires
-first_word-requires c =
-    rw c.entry_of-entry.ensures (first_fits (putting (goal.at.first_word-requires c).After-put_data-body))
+pub first_word-first-requires : goal.first_word-first-requires
+first_word-first-requires c =
+    rw c.entry_of-entry.ensures (first_fits (putting (goal.at.first_word-first-requires c).After-put_data-body))
 
 pub put_front-requires : goal.put_front-requires
 put_front-requires c =
@@ -50,6 +36,6 @@ put_front-requires c =
 
 pub returns : goal.returns
 returns c =
-    record_put (putting (goal.at.returns c).After-put_data-body) c.entry_of-entry.ensures c.args.before c.alike-again.result
-    c.requires.before_bound c.alike-again.ensures
-    c.first_word.ensures c.put_front.ensures
+    record_put (putting (goal.at.returns c).After-put_data-body) c.entry_of-entry.ensures c.args.before
+    c.alike-again.result c.requires.before_bound c.alike-again.ensures
+    c.first_word-first.ensures c.put_front.ensures
