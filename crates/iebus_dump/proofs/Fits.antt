@@ -12,8 +12,9 @@ use Rattle.logs.specs.Frames.{stray_in}
 use Rattle.logs.specs.Relied.{Relied}
 use Rattle.logs.specs.Records.{Record, byte_word, record_words, records_of, second_word, words_behind}
 use Rattle.logs.specs.Records.{words_of as recordsWords}
+use Rattle.std.specs.Prelude.{Option, Some, None}
 use Rattle.text.specs.declared.last.Last.{Last}
-use Rattle.text.specs.declared.last.Last.TheVariants.{Nothing, Short, More}
+use Rattle.text.specs.declared.last.Last.TheVariants.{Short, More}
 use Rattle.text.specs.Last.{last_text}
 use Rattle.pieces.specs.Pieces.{bytes_of}
 use Rattle.iebus_dump.specs.Line.{Frame, bit_column, bytes_column, control_column, control_name, controls}
@@ -125,11 +126,11 @@ lines_short (p ∷ ps) (r ∷ rs) (also sound sounds) =
       lines_short ps rs sounds,
     )
 
-last_short : (last : Last) → length (last_text last) ≤ 6
+last_short : (last : Option Last) → length (last_text last) ≤ 6
 unfolding last_text
-last_short Nothing = omega arith
-last_short Short = omega arith
-last_short More = omega arith
+last_short None = omega arith
+last_short (Some Short) = omega arith
+last_short (Some More) = omega arith
 
 -- all that is printed has room in a text of so many bytes
 pub fits : {long : Bool} → Relied long → (input : List ℕ) → length (whole_of long input) ≤ dump_bytes

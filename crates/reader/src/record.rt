@@ -15,17 +15,13 @@ use crate::entry::{Entry, alike};
 use crate::head::{Front, Head, head_of};
 use crate::text::{Body, DATA_PLACE, put_text};
 use crate::words::{ACKED_WEIGHT, AGAIN_WEIGHT, BIT_WEIGHT, LENGTH_WEIGHT, UNACKED_WEIGHT};
-use line::numbers::{ATTEMPTS_MODE_0, ATTEMPTS_MODE_1};
+use line::numbers::attempts;
 
 // How many attempts a frame makes at most: a broadcast one for each byte.
 fn most_attempts(long: bool, broadcast: bool, bytes: u32) -> u32
     ensures { (result ≡ attempts_of long broadcast bytes) × (result ≤ 32) }
 {
-    let limit = if long {
-        ATTEMPTS_MODE_1 as u32
-    } else {
-        ATTEMPTS_MODE_0 as u32
-    };
+    let limit = u32::from(attempts(long));
     if broadcast { bytes.min(limit) } else { limit }
 }
 
