@@ -1,3 +1,2 @@
--- What each loop over pulses keeps from turn to turn, and what a conversion comes to.
-pub mod Loops
+-- What a conversion comes to.
 pub mod Ends

@@ -2,17 +2,14 @@
 // that symbol, every other becomes idle. The public function has no `requires`, and nothing is assumed.
 #![tactic(auto)]
 
-ghost use Rattle.std.specs.Prelude.{◌≡◌, ◌++◌, ◌≤◌, drop, length};
-ghost use Rattle.pulses.specs.Conversion.{Converted};
+ghost use Rattle.std.specs.Prelude.{◌≡◌, ◌++◌, ◌≤◌, OnOk, drop, length};
+ghost use Rattle.pulses.specs.Conversion.{Converted, end_of};
 ghost use Rattle.pulses.specs.Ranges.{bad_ranges, meet, turned};
 ghost use Rattle.pulses.specs.Relied.{Relied};
 ghost use Rattle.pulses.specs.Symbols.{bad_in, bad_pulse, slots_of, symbol_of, within};
 
 use line::numbers::{SLOT_HIGH, SLOT_IDLE, SLOT_LOW, SLOT_START};
-use pulses::{Measured, Range, Setting};
-
-// The least and the most of a pulse are the halves of its word.
-const HALF: u32 = 0x1_0000;
+use pulses::{PulsesError, Range, Setting};
 
 fn turned(r: Range) -> bool
     ensures { result ≡ turned r }
@@ -30,21 +27,18 @@ fn meet(a: Range, b: Range) -> bool
 fn bad_ranges(s: Setting) -> bool
     ensures { result ≡ bad_ranges s }
 {
-    let zero = s.zero;
-    let one = s.one;
-    let start = s.start;
-    turned(zero)
-        | turned(one)
-        | turned(start)
-        | meet(zero, one)
-        | meet(zero, start)
-        | meet(one, start)
+    turned(s.zero)
+        | turned(s.one)
+        | turned(s.start)
+        | meet(s.zero, s.one)
+        | meet(s.zero, s.start)
+        | meet(s.one, s.start)
 }
 
 fn bad_pulse(pulse: u32) -> bool
     ensures { result ≡ bad_pulse pulse }
 {
-    pulse / HALF < pulse % HALF
+    turned(Range::in_word(pulse))
 }
 
 // Whether some pulse has its least above its most. To look at every pulse and test once is cheaper than a test of each.
@@ -52,37 +46,31 @@ fn bad_pulses(pulses: &[u32]) -> bool
     ensures { result ≡ bad_in pulses.now }
 {
     let mut bad = false;
-    let mut i: usize = 0;
-    while i < pulses.len() {
-        bad = bad | bad_pulse(pulses[i]);
-        i += 1;
+    for pulse in pulses {
+        bad |= bad_pulse(*pulse);
     }
     bad
 }
 
-fn within(r: Range, least: u32, most: u32) -> bool
-    ensures { result ≡ within r least most }
+fn within(r: Range, pulse: Range) -> bool
+    ensures { result ≡ within r pulse.least pulse.most }
 {
-    (r.least as u32 <= least) & (most <= r.most as u32)
+    (r.least <= pulse.least) & (pulse.most <= r.most)
 }
 
 #[tactic(auto, unfolding(pulses::specs::Symbols::symbol_of))]
-fn symbol(s: Setting, least: u32, most: u32) -> u32
-    ensures { result ≡ symbol_of s least most }
+fn symbol(s: Setting, pulse: Range) -> u32
+    ensures { result ≡ symbol_of s pulse.least pulse.most }
 {
-    let zero = s.zero;
-    if within(zero, least, most) {
-        return SLOT_LOW;
+    if within(s.zero, pulse) {
+        SLOT_LOW
+    } else if within(s.one, pulse) {
+        SLOT_HIGH
+    } else if within(s.start, pulse) {
+        SLOT_START
+    } else {
+        SLOT_IDLE
     }
-    let one = s.one;
-    if within(one, least, most) {
-        return SLOT_HIGH;
-    }
-    let start = s.start;
-    if within(start, least, most) {
-        return SLOT_START;
-    }
-    SLOT_IDLE
 }
 
 fn put_slots(s: Setting, pulses: &[u32], slots: &mut [u32])
@@ -90,29 +78,41 @@ fn put_slots(s: Setting, pulses: &[u32], slots: &mut [u32])
     ensures { slots.new ≡ slots_of s pulses.now
         ++ drop (length pulses.now) slots.old }
 {
-    let mut i: usize = 0;
-    while i < pulses.len() {
-        let pulse = pulses[i];
-        slots[i] = symbol(s, pulse % HALF, pulse / HALF);
-        i += 1;
+    for (i, pulse) in pulses.iter().enumerate() {
+        slots[i] = symbol(s, Range::in_word(*pulse));
     }
+}
+
+// What is refused of a setting and of pulses, where there is room for so many slots.
+#[tactic(auto, unfolding(pulses::specs::Conversion::end_of))]
+fn checked(s: Setting, pulses: &[u32], room: usize) -> Result<(), PulsesError>
+    ensures ends { result ≡ end_of s room pulses.now }
+    ensures fits { OnOk result (length pulses.now ≤ room) }
+{
+    if room < pulses.len() {
+        return Err(PulsesError::ShortList);
+    }
+    if bad_ranges(s) {
+        return Err(PulsesError::BadRanges);
+    }
+    if bad_pulses(pulses) {
+        return Err(PulsesError::BadPulse);
+    }
+    Ok(())
 }
 
 // A slot word for each pulse, whose least and most are the lower and the upper half of its word. The slots go to the
 // front of the list; places past them keep their contents, and so does the whole list where the call is refused.
-pub fn slots_of_pulses(setting: Setting, pulses: &[u32], slots: &mut [u32]) -> Measured
+#[tactic(auto, using(pulses::proofs::Relied::relied, crate::proofs::Ends::refused, crate::proofs::Ends::given))]
+pub fn slots_of_pulses(
+    setting: Setting,
+    pulses: &[u32],
+    slots: &mut [u32],
+) -> Result<(), PulsesError>
     ensures whole { Converted setting pulses.now slots.old result slots.new }
     ensures relied { Relied setting }
 {
-    if slots.len() < pulses.len() {
-        return Measured::ShortList;
-    }
-    if bad_ranges(setting) {
-        return Measured::BadRanges;
-    }
-    if bad_pulses(pulses) {
-        return Measured::BadPulse;
-    }
+    checked(setting, pulses, slots.len())?;
     put_slots(setting, pulses, slots);
-    Measured::Given
+    Ok(())
 }

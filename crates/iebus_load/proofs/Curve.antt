@@ -1,5 +1,6 @@
 -- The curve figure by figure, and how long the summary and the plot are.
-use mathlib.Core.Bool.{Bool, true, false}
+use Rattle.iebus_load.specs.declared.arguments.View.{View}
+use Rattle.iebus_load.specs.declared.arguments.View.TheVariants.{Summary, Plot}
 use mathlib.Core.List.{List, [], ◌∷◌, ◌++◌}
 use mathlib.Core.Path.{◌≡◌, refl, ap, ◌∙◌}
 use Prim.Native.Nat.{ℕ, ◌+◌, ◌*◌, ◌<◌, ◌≤◌}
@@ -8,11 +9,10 @@ use lib.ListN.{drop, drop_of_length-le, get_or, length, length-append}
 use Rattle.line.proofs.Places.{cut}
 use Rattle.pieces.proofs.Pieces.{UpTo, up_to_all, up_to_none, up_to_one}
 use Rattle.pieces.specs.Pieces.{Put, bytes_of}
-use Rattle.iebus_load.specs.declared.texts.Facts.{Facts}
 use Rattle.iebus_load.specs.Forms.{woven}
 use Rattle.iebus_load.specs.Output.{most_slots, text_bytes, text_of}
-use Rattle.iebus_load.specs.Texts.{curve_of, head_form, head_numbers, plot_of, summary_form, summary_numbers, summary_of}
-use Rattle.iebus_load.specs.Texts.{tail_form, tail_numbers}
+use Rattle.iebus_load.specs.Texts.{LogFacts, curve_of, head_form, head_numbers, plot_of, summary_form}
+use Rattle.iebus_load.specs.Texts.{summary_numbers, summary_of, tail_form, tail_numbers}
 use Rattle.iebus_load.proofs.Woven.{woven_length}
 
 -- ---- put_curve: i figures stand in the text
@@ -55,26 +55,26 @@ curve_length (f ∷ fs) =
     ap length (curve_one f fs) ∙ length-append (woven (bytes_of "V@h1\n") (f ∷ [])) (curve_of fs)
     ∙ omega (arith, woven_length (bytes_of "V@h1\n") (f ∷ []), curve_length fs)
 
-head_length : (f : Facts) → length (woven head_form (head_numbers f)) ≡ 992
+head_length : (f : LogFacts) → length (woven head_form (head_numbers f)) ≡ 992
 unfolding head_form
 head_length f = woven_length head_form (head_numbers f)
 
-tail_length : (f : Facts) → length (woven tail_form (tail_numbers f)) ≡ 253
+tail_length : (f : LogFacts) → length (woven tail_form (tail_numbers f)) ≡ 253
 unfolding tail_form
 tail_length f = woven_length tail_form (tail_numbers f)
 
-plot_length : (f : Facts) (figures : List ℕ) → length (plot_of f figures) ≡ 992 + length figures * 9 + 253
+plot_length : (f : LogFacts) (figures : List ℕ) → length (plot_of f figures) ≡ 992 + length figures * 9 + 253
 unfolding plot_of
 plot_length f figures =
     let head : List ℕ = woven head_form (head_numbers f) in
     length-append (head ++ curve_of figures) (woven tail_form (tail_numbers f))
     ∙ omega (arith, length-append head (curve_of figures), head_length f, curve_length figures, tail_length f)
 
-summary_length : (f : Facts) → length (summary_of f) ≤ text_bytes
+summary_length : (f : LogFacts) → length (summary_of f) ≤ text_bytes
 unfolding summary_of
 summary_length f = omega (arith, woven_length summary_form (summary_numbers f))
 
-pub text_fits : (plot : Bool) (f : Facts) (figures : List ℕ) → length figures ≤ most_slots
-    → length (text_of plot f figures) ≤ text_bytes
-text_fits true f figures few = omega (arith, plot_length f figures, few)
-text_fits false f figures few = summary_length f
+pub text_fits : (view : View) (f : LogFacts) (figures : List ℕ) → length figures ≤ most_slots
+    → length (text_of view f figures) ≤ text_bytes
+text_fits Plot f figures few = omega (arith, plot_length f figures, few)
+text_fits Summary f figures few = summary_length f

@@ -2,9 +2,9 @@
 use Rattle.std.specs.Prelude.{true, List, [], ◌∷◌, ◌++◌, ◌≡◌, refl}
 use Rattle.line.specs.Cases.{Case, ◌gives◌, all_given}
 use Rattle.pieces.specs.Pieces.{bytes_of}
-use Rattle.iebus_load.specs.declared.texts.Facts.{Facts}
 use Rattle.iebus_load.specs.Forms.{column_of, woven}
-use Rattle.iebus_load.specs.Texts.{curve_of, head_numbers, percent_of, summary_numbers, summary_of, tail_numbers}
+use Rattle.iebus_load.specs.Texts.{LogFacts, curve_of, head_numbers, percent_of, summary_numbers, summary_of}
+use Rattle.iebus_load.specs.Texts.{tail_numbers}
 
 -- five columns, right-aligned, at each number of digits
 abbrev column_cases : List Case
@@ -14,7 +14,7 @@ column_cases =
     ∷ (column_of 4096 ++ column_of 10000 ++ column_of 65536 gives bytes_of " 4096" ++ bytes_of "10000" ++ bytes_of "65536")
     ∷ []
 
-abbrev facts : Facts
+abbrev facts : LogFacts
 facts = record { slots = 2581; busy = 1365; window = 256; largest = 252; place = 1503 }
 
 abbrev form_cases : List Case

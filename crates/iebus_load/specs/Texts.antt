@@ -1,8 +1,16 @@
 -- What is printed of a log: a summary, or a plot as SVG.
 use Rattle.std.specs.Prelude.{List, [], ◌∷◌, ◌++◌, ℕ, ◌+◌, ◌-◌, ◌*◌, ◌/◌}
 use Rattle.pieces.specs.Pieces.{bytes_of}
-use Rattle.iebus_load.specs.declared.texts.Facts.{Facts}
 use Rattle.iebus_load.specs.Forms.{woven}
+
+-- what is told of a log beside its figures: its slots, those of them not idle, the window, the largest figure and the
+-- first place where it was reached
+pub record LogFacts : Type 0 where
+  pub slots : ℕ
+  pub busy : ℕ
+  pub window : ℕ
+  pub largest : ℕ
+  pub place : ℕ
 
 -- so many of so many, in percent, rounded down
 abbrev pub percent_of : ℕ → ℕ → ℕ
@@ -20,12 +28,12 @@ summary_form =
     ++ bytes_of "@ % of the window\n"
     ++ bytes_of "@ is the first slot after which it was so\n"
 
-unfoldable pub summary_numbers : Facts → List ℕ
+unfoldable pub summary_numbers : LogFacts → List ℕ
 summary_numbers f =
     f.slots ∷ f.busy ∷ percent_of f.busy f.slots ∷ f.window ∷ f.largest
     ∷ percent_of f.largest f.window ∷ f.place ∷ []
 
-unfoldable pub summary_of : Facts → List ℕ
+unfoldable pub summary_of : LogFacts → List ℕ
 summary_of f = woven summary_form (summary_numbers f)
 
 -- ---- the plot: the figures over the slots, as high as the window is full, and a mark at the largest
@@ -60,10 +68,10 @@ head_form =
     ++ bytes_of "<path fill=\"#58a\" d=\"M0 0\n"
 
 -- the labels below the plot are its quarters, as many slots each, so that each is where it says
-abbrev pub quarter_of : Facts → ℕ
+abbrev pub quarter_of : LogFacts → ℕ
 quarter_of f = (f.slots + 3) / 4
 
-unfoldable pub head_numbers : Facts → List ℕ
+unfoldable pub head_numbers : LogFacts → List ℕ
 head_numbers f =
     f.window ∷ f.largest ∷ percent_of f.largest f.window ∷ f.place ∷ f.busy ∷ f.slots
     ∷ percent_of f.busy f.slots ∷ quarter_of f ∷ quarter_of f * 2 ∷ quarter_of f * 3 ∷ quarter_of f * 4
@@ -86,10 +94,10 @@ tail_form =
     ++ bytes_of "<path stroke=\"#a30\" stroke-width=\"2\" d=\"M@ 360V@\"/>\n"
     ++ bytes_of "</svg>\n"
 
-unfoldable pub tail_numbers : Facts → List ℕ
+unfoldable pub tail_numbers : LogFacts → List ℕ
 tail_numbers f =
     (70 + (f.place * 2 + 1) * 420 / (quarter_of f * 4)) ∷ (360 - f.largest * 280 / f.window) ∷ []
 
-unfoldable pub plot_of : Facts → List ℕ → List ℕ
+unfoldable pub plot_of : LogFacts → List ℕ → List ℕ
 plot_of f figures =
     woven head_form (head_numbers f) ++ curve_of figures ++ woven tail_form (tail_numbers f)

@@ -12,9 +12,10 @@ fn digit(unit: u32, n: u32) -> u8
     ensures { result ≡ digit_at unit n }
 {
     if n < unit {
-        return b' ';
+        b' '
+    } else {
+        b'0' + (n / unit % 10) as u8
     }
-    b'0' + (n / unit % 10) as u8
 }
 
 #[tactic(auto, unfolding(crate::specs::Forms::column_of))]
@@ -30,46 +31,33 @@ fn column(n: u32) -> [u8; 5]
     ]
 }
 
-fn number_at(numbers: &[u32], at: usize) -> u32
-    ensures { result ≡ get_or numbers.now at 0 }
-{
-    if at < numbers.len() {
-        return numbers[at];
-    }
-    0
-}
-
 // A byte of a form, or the number that it stands for.
 fn put_piece(text: &mut [u8], at: usize, byte: u8, n: u32) -> usize
     ensures { Put text.old at (piece_by byte n) result text.new }
 {
     if byte == MARK {
-        return put(text, at, &column(n));
+        put(text, at, &column(n))
+    } else {
+        put(text, at, &[byte])
     }
-    put(text, at, &[byte])
 }
 
 // How many numbers a byte of a form stands for.
 fn count(byte: u8) -> usize
     ensures { result ≡ count_by byte }
 {
-    if byte == MARK {
-        return 1;
-    }
-    0
+    usize::from(byte == MARK)
 }
 
 pub(crate) fn put_form(text: &mut [u8], at: usize, form: &[u8], numbers: &[u32]) -> usize
     ensures { Put text.old at (woven form.now numbers.now) result text.new }
 {
     let mut end = at;
-    let mut next: usize = 0;
-    let mut i: usize = 0;
-    while i < form.len() {
-        let byte = form[i];
-        end = put_piece(text, end, byte, number_at(numbers, next));
-        next += count(byte);
-        i += 1;
+    let mut next = 0;
+    for byte in form {
+        let number = numbers.get(next).copied().unwrap_or(0);
+        end = put_piece(text, end, *byte, number);
+        next += count(*byte);
     }
     end
 }

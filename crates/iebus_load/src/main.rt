@@ -9,16 +9,18 @@
 #![tactic(auto)]
 
 ghost use Rattle.std.specs.Prelude.{◌≡◌, ◌≤◌, length};
-ghost use Rattle.iebus_load.specs.Output.{Made, asked_of, most_slots, text_bytes};
+ghost use Rattle.iebus_load.specs.Output.{Made, most_slots, text_bytes};
 
+mod arguments;
 mod forms;
 mod output;
 mod texts;
 
-use crate::output::{Message, is_svg, told};
+use crate::arguments::{Wanted, asked};
+use crate::output::{Message, told};
 use crate::texts::put_loaded;
 use meter::load;
-use pieces::{NO_NUMBER, argument, number, read_full};
+use pieces::{argument, read_full};
 use std::env::{Env, FillError};
 use words::put_words;
 
@@ -34,109 +36,59 @@ const TEXT_BYTES: usize = 591069;
 // A number has at most five digits; a longer argument is none.
 const NUMBER_BYTES: usize = 5;
 
-// What is asked for: the summary or the plot, with a window, or neither.
-#[derive(Clone, Copy)]
-enum Wanted {
-    Summary(u32),
-    Plot(u32),
-    Neither,
-}
-
 // How long the text is, and what is said.
 #[derive(Clone, Copy)]
 struct Outcome {
     count: usize,
-    message: Message,
-}
-
-// What the arguments ask for, of which there are so many with the program's own name.
-#[tactic(auto, unfolding(crate::specs::Output::asked_of))]
-fn asked(count: usize, window: &[u8], second: &[u8]) -> Wanted
-    ensures { result ≡ asked_of count window.now second.now }
-{
-    let w = number(window);
-    if NO_NUMBER <= w {
-        return Wanted::Neither;
-    }
-    if count < 3 {
-        return Wanted::Summary(w);
-    }
-    if is_svg(second) {
-        return Wanted::Plot(w);
-    }
-    Wanted::Neither
+    message: Option<Message>,
 }
 
 // The same as `made`, with lists for the slots and the figures that are lent: their lengths are all that matters of
 // them, and a proof that sees their contents takes several times as long.
 fn made_in(
-    plot: bool,
-    w: u32,
+    wanted: Wanted,
     input: &[u8],
     slots: &mut [u32],
     figures: &mut [u32],
     text: &mut [u8],
 ) -> Outcome
     requires { (length slots.old ≡ most_slots) × (length figures.old ≡ most_slots) }
-    ensures { Made plot w input.now text.old result.count result.message text.new }
+    ensures { Made wanted.view wanted.window input.now text.old result.count result.message text.new }
 {
     let count = put_words(input, slots);
-    let loaded = load(w, &slots[0..count], figures);
-    let message = told(loaded, input.len());
-    let end = put_loaded(plot, text, w, loaded, &slots[0..count], &figures[0..count]);
+    let ended = load(wanted.window, &slots[..count], figures);
     Outcome {
-        count: end,
-        message,
+        count: put_loaded(text, wanted, ended, &slots[..count], &figures[..count]),
+        message: told(ended, input.len()),
     }
 }
 
 // The summary or the plot goes to the front of the text, as far as there is room, and the rest of the text stays as it
 // was. TEXT_BYTES are room for all of it.
-fn made(plot: bool, w: u32, input: &[u8], text: &mut [u8]) -> Outcome
-    ensures { Made plot w input.now text.old result.count result.message text.new }
+fn made(wanted: Wanted, input: &[u8], text: &mut [u8]) -> Outcome
+    ensures { Made wanted.view wanted.window input.now text.old result.count result.message text.new }
 {
     let mut slots = [0u32; MOST_SLOTS];
     let mut figures = [0u32; MOST_SLOTS];
-    made_in(plot, w, input, &mut slots, &mut figures, text)
-}
-
-fn say(rt: &impl Eprint, message: Message) {
-    match message {
-        Message::Nothing => {}
-        Message::Short => {
-            let _ = rt.eprintln("short");
-        }
-        Message::More => {
-            let _ = rt.eprintln("more");
-        }
-        Message::Empty => {
-            let _ = rt.eprintln("empty");
-        }
-        Message::BadWindow => {
-            let _ = rt.eprintln("refused 25");
-        }
-        Message::NoSlot => {
-            let _ = rt.eprintln("refused 16");
-        }
-    }
+    made_in(wanted, input, &mut slots, &mut figures, text)
 }
 
 // There is room for all of it. Where it cannot be written, nothing is left to do.
-fn print(rt: &(impl Print + Eprint), plot: bool, w: u32, input: &[u8], text: &mut [u8])
+fn print(rt: &(impl Print + Eprint), wanted: Wanted, input: &[u8], text: &mut [u8])
     requires { text_bytes ≤ length text.old }
 {
-    let outcome = made(plot, w, input, text);
-    let count = outcome.count;
-    let message = outcome.message;
-    let _ = rt.write_all(&text[0..count]);
-    say(rt, message);
+    let outcome = made(wanted, input, text);
+    let _ = rt.write_all(&text[..outcome.count]);
+    if let Some(message) = outcome.message {
+        let _ = eprintln!(rt; "{message}");
+    }
 }
 
-fn show(rt: HostRuntime, plot: bool, w: u32) {
+fn show(rt: HostRuntime, wanted: Wanted) {
     let mut input = [0u8; INPUT_BYTES];
     let mut text = [0u8; TEXT_BYTES];
     let count = read_full(&mut rt.stdin(), &mut input);
-    print(&rt, plot, w, &input[..count], &mut text);
+    print(&rt, wanted, &input[..count], &mut text);
 }
 
 fn explain(rt: &impl Eprint) {
@@ -162,10 +114,8 @@ fn main(rt: HostRuntime) {
     let mut second = [0u8; 3];
     let digits = argument(&rt, 1, &mut window);
     let letters = argument(&rt, 2, &mut second);
-    let wanted = asked(argument_count(&rt), &window[..digits], &second[..letters]);
-    match wanted {
-        Wanted::Summary(w) => show(rt, false, w),
-        Wanted::Plot(w) => show(rt, true, w),
-        Wanted::Neither => explain(&rt),
+    match asked(argument_count(&rt), &window[..digits], &second[..letters]) {
+        Some(wanted) => show(rt, wanted),
+        None => explain(&rt),
     }
 }

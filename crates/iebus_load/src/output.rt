@@ -1,15 +1,13 @@
-// What is said of a log, and the word for a plot.
+// What is said of a log.
 ghost use Rattle.std.specs.Prelude.{◌≡◌};
-ghost use Rattle.line.specs.Cases.{same};
-ghost use Rattle.pieces.specs.Pieces.{bytes_of};
 ghost use Rattle.iebus_load.specs.Output.{message_of};
 
-use loads::Loaded;
+use loads::{LoadError, Peak};
+use std::fmt;
 use words::WORD_BYTES;
 
-#[derive(Clone, Copy)]
+#[derive(Clone, Copy, Debug, PartialEq, Eq)]
 pub(crate) enum Message {
-    Nothing,
     Short,
     More,
     Empty,
@@ -17,35 +15,32 @@ pub(crate) enum Message {
     NoSlot,
 }
 
+impl fmt::Display for Message {
+    fn fmt<W: fmt::Write>(&self, f: &mut fmt::Formatter<W>) -> fmt::Result {
+        f.write_str(match self {
+            Message::Short => "short",
+            Message::More => "more",
+            Message::Empty => "empty",
+            Message::BadWindow => "refused 25",
+            Message::NoSlot => "refused 16",
+        })
+    }
+}
+
 // The bytes of the slots that are read.
 const MOST_BYTES: usize = 262144;
 
 #[tactic(auto, unfolding(crate::specs::Output::message_of))]
-pub(crate) fn told(loaded: Loaded, bytes: usize) -> Message
-    ensures { result ≡ message_of loaded bytes }
+pub(crate) fn told(ended: Result<Option<Peak>, LoadError>, bytes: usize) -> Option<Message>
+    ensures { result ≡ message_of ended bytes }
 {
-    match loaded {
-        Loaded::Peak(_, _) => {
-            if MOST_BYTES < bytes {
-                return Message::More;
-            }
-            if bytes % WORD_BYTES != 0 {
-                return Message::Short;
-            }
-            Message::Nothing
-        }
-        Loaded::Empty => Message::Empty,
-        Loaded::ShortList => Message::Nothing,
-        Loaded::BadWindow => Message::BadWindow,
-        Loaded::NoSlot => Message::NoSlot,
+    match ended {
+        Ok(Some(_)) if MOST_BYTES < bytes => Some(Message::More),
+        Ok(Some(_)) if bytes % WORD_BYTES != 0 => Some(Message::Short),
+        Ok(Some(_)) => None,
+        Ok(None) => Some(Message::Empty),
+        Err(LoadError::ShortList) => None,
+        Err(LoadError::BadWindow) => Some(Message::BadWindow),
+        Err(LoadError::NoSlot) => Some(Message::NoSlot),
     }
-}
-
-pub(crate) fn is_svg(text: &[u8]) -> bool
-    ensures { result ≡ same text.now (bytes_of "svg") }
-{
-    if text.len() != 3 {
-        return false;
-    }
-    (text[0] == b's') & (text[1] == b'v') & (text[2] == b'g')
 }

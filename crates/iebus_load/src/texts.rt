@@ -4,22 +4,51 @@ ghost use Rattle.pieces.specs.Pieces.{Put};
 ghost use Rattle.iebus_load.specs.Forms.{woven};
 ghost use Rattle.iebus_load.specs.Output.{facts_of, most_slots, text_of, whole_by};
 ghost use Rattle.iebus_load.specs.Texts.{curve_of, head_form, head_numbers, percent_of, summary_numbers, summary_of};
-ghost use Rattle.iebus_load.specs.Texts.{plot_of, tail_form, tail_numbers};
+ghost use Rattle.iebus_load.specs.Texts.{LogFacts, plot_of, tail_form, tail_numbers};
 ghost use Rattle.iebus_load.specs.Writing.{OfLog, Sized, Told};
 
+use crate::arguments::{View, Wanted};
 use crate::forms::put_form;
-use loads::Loaded;
+use loads::{LoadError, Peak};
 use meter::busy_of;
+use std::marker::Model;
 
-// What is told of a log beside its figures: its slots, those of them not idle, the window, the largest figure and the
-// first place where it was reached.
+// What is told of a log beside its figures. Percentages can be made of each.
 #[derive(Clone, Copy)]
-pub(crate) struct Facts {
+struct Facts {
     slots: u32,
     busy: u32,
     window: u32,
     largest: u32,
     place: u32,
+}
+
+impl Model for Facts {
+    ghost Value = { LogFacts };
+
+    ghost view = { λ f. record {
+      slots = f.slots;
+      busy = f.busy;
+      window = f.window;
+      largest = f.largest;
+      place = f.place;
+    } };
+
+    ghost inverse = { λ f. record {
+      slots = f.slots;
+      busy = f.busy;
+      window = f.window;
+      largest = f.largest;
+      place = f.place;
+    } };
+
+    ghost invariant = { λ f. Sized (record {
+      slots = f.slots;
+      busy = f.busy;
+      window = f.window;
+      largest = f.largest;
+      place = f.place;
+    }) };
 }
 
 fn percent(part: u32, whole: u32) -> u32
@@ -31,7 +60,6 @@ fn percent(part: u32, whole: u32) -> u32
 
 #[tactic(auto, unfolding(crate::specs::Texts::summary_numbers))]
 fn summary_numbers(f: Facts) -> [u32; 7]
-    requires { Sized f }
     ensures { result ≡ summary_numbers f }
 {
     [
@@ -47,7 +75,6 @@ fn summary_numbers(f: Facts) -> [u32; 7]
 
 #[tactic(auto, unfolding(crate::specs::Texts::summary_of))]
 fn put_summary(text: &mut [u8], f: Facts) -> usize
-    requires { Sized f }
     ensures { Put text.old 0 (summary_of f) result text.new }
 {
     let form: &[u8] = b"@ slots\n\
@@ -62,7 +89,6 @@ fn put_summary(text: &mut [u8], f: Facts) -> usize
 
 #[tactic(auto, unfolding(crate::specs::Texts::head_numbers))]
 fn head_numbers(f: Facts) -> [u32; 14]
-    requires { Sized f }
     ensures { result ≡ head_numbers f }
 {
     let quarter = (f.slots + 3) / 4;
@@ -86,7 +112,6 @@ fn head_numbers(f: Facts) -> [u32; 14]
 
 #[tactic(auto, unfolding(crate::specs::Texts::head_form))]
 fn put_head(text: &mut [u8], f: Facts) -> usize
-    requires { Sized f }
     ensures { Put text.old 0 (woven head_form (head_numbers f)) result text.new }
 {
     let form: &[u8] =
@@ -122,10 +147,8 @@ fn put_curve(text: &mut [u8], at: usize, figures: &[u32]) -> usize
     ensures { Put text.old at (curve_of figures.now) result text.new }
 {
     let mut end = at;
-    let mut i: usize = 0;
-    while i < figures.len() {
-        end = put_form(text, end, b"V@h1\n", &[figures[i]]);
-        i += 1;
+    for figure in figures {
+        end = put_form(text, end, b"V@h1\n", &[*figure]);
     }
     end
 }
@@ -133,7 +156,6 @@ fn put_curve(text: &mut [u8], at: usize, figures: &[u32]) -> usize
 // Where the mark of the largest figure stands, and how far up it goes.
 #[tactic(auto, unfolding(crate::specs::Texts::tail_numbers))]
 fn tail_numbers(f: Facts) -> [u32; 2]
-    requires { Sized f }
     ensures { result ≡ tail_numbers f }
 {
     let slots = (f.slots + 3) / 4 * 4;
@@ -145,7 +167,6 @@ fn tail_numbers(f: Facts) -> [u32; 2]
 
 #[tactic(auto, unfolding(crate::specs::Texts::tail_form))]
 fn put_tail(text: &mut [u8], at: usize, f: Facts) -> usize
-    requires { Sized f }
     ensures { Put text.old at (woven tail_form (tail_numbers f)) result text.new }
 {
     let form: &[u8] = b"V0z\"/>\n\
@@ -160,7 +181,6 @@ fn put_tail(text: &mut [u8], at: usize, f: Facts) -> usize
 
 #[tactic(auto, unfolding(crate::specs::Texts::plot_of))]
 fn put_plot(text: &mut [u8], f: Facts, figures: &[u32]) -> usize
-    requires { Sized f }
     ensures { Put text.old 0 (plot_of f figures.now) result text.new }
 {
     let at = put_head(text, f);
@@ -169,50 +189,46 @@ fn put_plot(text: &mut [u8], f: Facts, figures: &[u32]) -> usize
 }
 
 // The summary, or the plot, from the beginning of the text on.
-fn put_text(plot: bool, text: &mut [u8], f: Facts, figures: &[u32]) -> usize
-    requires { Sized f }
-    ensures { Put text.old 0 (text_of plot f figures.now) result text.new }
+fn put_text(text: &mut [u8], view: View, f: Facts, figures: &[u32]) -> usize
+    ensures { Put text.old 0 (text_of view f figures.now) result text.new }
 {
-    if plot {
-        return put_plot(text, f, figures);
+    match view {
+        View::Plot => put_plot(text, f, figures),
+        View::Summary => put_summary(text, f),
     }
-    put_summary(text, f)
 }
 
-fn facts_of(w: u32, slots: &[u32], largest: u32, place: usize) -> Facts
-    requires { OfLog w slots.now largest place }
-    ensures { result ≡ facts_of w slots.now largest place }
+fn facts_of(w: u32, slots: &[u32], peak: Peak) -> Facts
+    requires { OfLog w slots.now peak }
+    ensures { result ≡ facts_of w slots.now peak }
 {
     Facts {
         slots: slots.len() as u32,
         busy: busy_of(slots) as u32,
         window: w,
-        largest,
-        place: place as u32,
+        largest: peak.largest,
+        place: peak.place as u32,
     }
 }
 
 // What is written of a log whose figures ended so: nothing where there is none.
 #[tactic(auto, unfolding(crate::specs::Output::whole_by))]
 pub(crate) fn put_loaded(
-    plot: bool,
     text: &mut [u8],
-    w: u32,
-    loaded: Loaded,
+    wanted: Wanted,
+    ended: Result<Option<Peak>, LoadError>,
     slots: &[u32],
     figures: &[u32],
 ) -> usize
-    requires { Told w loaded slots.now }
-    ensures { Put text.old 0 (whole_by plot w loaded slots.now figures.now) result
-        text.new }
+    requires { Told wanted.window ended slots.now }
+    ensures { Put text.old 0 (whole_by wanted.view wanted.window ended slots.now figures.now)
+        result text.new }
 {
-    match loaded {
-        Loaded::Peak(largest, place) => {
-            put_text(plot, text, facts_of(w, slots, largest, place), figures)
+    match ended {
+        Ok(Some(peak)) => {
+            let facts = facts_of(wanted.window, slots, peak);
+            put_text(text, wanted.view, facts, figures)
         }
-        Loaded::Empty => 0,
-        Loaded::ShortList => 0,
-        Loaded::BadWindow => 0,
-        Loaded::NoSlot => 0,
+        Ok(None) | Err(_) => 0,
     }
 }

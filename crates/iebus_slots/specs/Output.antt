@@ -1,10 +1,9 @@
 -- What is made of an input: the slots of its pulses, as bytes, and what is said besides.
-use Rattle.std.specs.Prelude.{List, ◌≡◌, ℕ, ◌*◌, ◌/◌, ◌%◌, min, eqb, ltb, length}
+use Rattle.std.specs.Prelude.{List, ◌≡◌, ℕ, ◌*◌, ◌/◌, ◌%◌, Option, Some, None, Ok, Err, min, eqb, ltb, length}
 use Rattle.line.specs.Choice.{pick}
-use Rattle.pulses.specs.declared.Measured.{Measured}
-use Rattle.pulses.specs.declared.Measured.TheVariants.{Given, ShortList, BadRanges, BadPulse}
+use Rattle.pulses.specs.declared.PulsesError.TheVariants.{ShortList, BadRanges, BadPulse}
 use Rattle.pulses.specs.declared.Setting.{Setting}
-use Rattle.pulses.specs.Conversion.{end_of, written_of}
+use Rattle.pulses.specs.Conversion.{Ending, end_of, written_of}
 use Rattle.words.specs.Words.{bytes_of, words_of, words_read}
 use Rattle.iebus_slots.specs.declared.output.Message.{Message}
 use Rattle.iebus_slots.specs.declared.output.Message.TheVariants as message
@@ -17,15 +16,13 @@ most_pulses = 16384
 unfoldable pub pulses_of : List ℕ → List ℕ
 pulses_of input = words_read input most_pulses
 
-abbrev pub measured_of : Setting → List ℕ → Measured
+abbrev pub measured_of : Setting → List ℕ → Ending
 measured_of s input = end_of s most_pulses (pulses_of input)
 
 -- how many of so many pulses have a slot then
-abbrev pub given_of : Measured → ℕ → ℕ
-given_of Given count = count
-given_of ShortList count = 0
-given_of BadRanges count = 0
-given_of BadPulse count = 0
+abbrev pub given_of : Ending → ℕ → ℕ
+given_of (Ok done) count = count
+given_of (Err e) count = 0
 
 -- the slots, none where the call is refused
 abbrev pub slots_for : Setting → List ℕ → List ℕ
@@ -42,9 +39,9 @@ pub record ReadAgain (s : Setting) (input : List ℕ) : Type 0 where
 
 -- what is said of an input of so many bytes: the refusal alone, else `more` if any byte follows the last pulse that is
 -- read, else `short` for 1 to 3 bytes left over
-unfoldable pub message_of : Measured → ℕ → Message
-message_of Given bytes =
-    pick (ltb (most_pulses * 4) bytes) message.More (pick (eqb (bytes % 4) 0) message.Nothing message.Short)
-message_of ShortList bytes = message.Nothing
-message_of BadRanges bytes = message.BadRanges
-message_of BadPulse bytes = message.BadPulse
+unfoldable pub message_of : Ending → ℕ → Option Message
+message_of (Ok done) bytes =
+    pick (ltb (most_pulses * 4) bytes) (Some message.More) (pick (eqb (bytes % 4) 0) None (Some message.Short))
+message_of (Err ShortList) bytes = None
+message_of (Err BadRanges) bytes = Some message.BadRanges
+message_of (Err BadPulse) bytes = Some message.BadPulse

@@ -9,17 +9,17 @@
 #![tactic(auto)]
 
 ghost use Rattle.std.specs.Prelude.{◌≡◌, ◌++◌, ◌*◌, ◌≤◌, drop, length};
-ghost use Rattle.iebus_slots.specs.Arguments.{asked_of};
 ghost use Rattle.iebus_slots.specs.Output.{ReadAgain, measured_of, message_of, most_pulses, output_of};
 
 mod arguments;
 mod output;
 
-use crate::arguments::{Asked, range, setting};
+use crate::arguments::{Ends, setting_asked};
 use crate::output::{Message, given, told};
 use capture::slots_of_pulses;
-use pieces::{argument, number, read_full};
+use pieces::{argument, read_full};
 use pulses::Setting;
+use std::env::Env;
 use words::{WORD_BYTES, put_bytes, put_words};
 
 // At most so many pulses are read.
@@ -38,25 +38,7 @@ const ARGUMENT_BYTES: usize = 5;
 #[derive(Clone, Copy)]
 struct Outcome {
     count: usize,
-    message: Message,
-}
-
-// The setting that six texts say, in the order of the arguments.
-fn setting_asked(
-    zero_least: &[u8],
-    zero_most: &[u8],
-    one_least: &[u8],
-    one_most: &[u8],
-    start_least: &[u8],
-    start_most: &[u8],
-) -> Asked
-    ensures { result ≡ asked_of zero_least.now zero_most.now one_least.now
-        one_most.now start_least.now start_most.now }
-{
-    let zero = range(number(zero_least), number(zero_most));
-    let one = range(number(one_least), number(one_most));
-    let start = range(number(start_least), number(start_most));
-    setting(zero, one, start)
+    message: Option<Message>,
 }
 
 // The bytes of the slots go to the front of the list, as far as there is room for whole words; the rest of it stays as
@@ -72,31 +54,11 @@ fn converted(setting: Setting, input: &[u8], bytes: &mut [u8]) -> Outcome
     let mut pulses = [0u32; MOST_PULSES];
     let mut slots = [0u32; MOST_PULSES];
     let count = put_words(input, &mut pulses);
-    let measured = slots_of_pulses(setting, &pulses[0..count], &mut slots);
-    let end = given(measured, count);
-    let words = put_bytes(&slots[0..end], bytes);
-    let message = told(measured, input.len());
+    let ended = slots_of_pulses(setting, &pulses[..count], &mut slots);
+    let words = put_bytes(&slots[..given(ended, count)], bytes);
     Outcome {
         count: words * WORD_BYTES,
-        message,
-    }
-}
-
-fn say(rt: &impl Eprint, message: Message) {
-    match message {
-        Message::Nothing => {}
-        Message::Short => {
-            let _ = rt.eprintln("short");
-        }
-        Message::More => {
-            let _ = rt.eprintln("more");
-        }
-        Message::BadRanges => {
-            let _ = rt.eprintln("refused 19");
-        }
-        Message::BadPulse => {
-            let _ = rt.eprintln("refused 20");
-        }
+        message: told(ended, input.len()),
     }
 }
 
@@ -105,10 +67,10 @@ fn print(rt: &(impl Print + Eprint), setting: Setting, input: &[u8], slots: &mut
     requires { most_pulses * 4 ≤ length slots.old }
 {
     let outcome = converted(setting, input, slots);
-    let count = outcome.count;
-    let message = outcome.message;
-    let _ = rt.write_all(&slots[0..count]);
-    say(rt, message);
+    let _ = rt.write_all(&slots[..outcome.count]);
+    if let Some(message) = outcome.message {
+        let _ = eprintln!(rt; "{message}");
+    }
 }
 
 fn convert(rt: HostRuntime, setting: Setting) {
@@ -124,6 +86,12 @@ fn explain(rt: &impl Eprint) {
     );
 }
 
+// The text of an argument, in the bytes that are lent.
+fn text<'a>(rt: &impl Env, place: usize, bytes: &'a mut [u8]) -> &'a [u8] {
+    let count = argument(rt, place, bytes);
+    &bytes[..count]
+}
+
 fn main(rt: HostRuntime) {
     let mut zero_least = [0u8; ARGUMENT_BYTES];
     let mut zero_most = [0u8; ARGUMENT_BYTES];
@@ -131,22 +99,20 @@ fn main(rt: HostRuntime) {
     let mut one_most = [0u8; ARGUMENT_BYTES];
     let mut start_least = [0u8; ARGUMENT_BYTES];
     let mut start_most = [0u8; ARGUMENT_BYTES];
-    let a = argument(&rt, 1, &mut zero_least);
-    let b = argument(&rt, 2, &mut zero_most);
-    let c = argument(&rt, 3, &mut one_least);
-    let d = argument(&rt, 4, &mut one_most);
-    let e = argument(&rt, 5, &mut start_least);
-    let f = argument(&rt, 6, &mut start_most);
-    let setting = setting_asked(
-        &zero_least[..a],
-        &zero_most[..b],
-        &one_least[..c],
-        &one_most[..d],
-        &start_least[..e],
-        &start_most[..f],
-    );
-    match setting {
-        Asked::Given(setting) => convert(rt, setting),
-        Asked::Missing => explain(&rt),
+    let zero = Ends {
+        least: text(&rt, 1, &mut zero_least),
+        most: text(&rt, 2, &mut zero_most),
+    };
+    let one = Ends {
+        least: text(&rt, 3, &mut one_least),
+        most: text(&rt, 4, &mut one_most),
+    };
+    let start = Ends {
+        least: text(&rt, 5, &mut start_least),
+        most: text(&rt, 6, &mut start_most),
+    };
+    match setting_asked(zero, one, start) {
+        Some(setting) => convert(rt, setting),
+        None => explain(&rt),
     }
 }

@@ -2,49 +2,52 @@
 ghost use Rattle.std.specs.Prelude.{◌≡◌, ◌≤◌};
 ghost use Rattle.iebus_slots.specs.Output.{given_of, message_of};
 
-use pulses::Measured;
+use pulses::PulsesError;
+use std::fmt;
 use words::WORD_BYTES;
 
-#[derive(Clone, Copy)]
+#[derive(Clone, Copy, Debug, PartialEq, Eq)]
 pub(crate) enum Message {
-    Nothing,
     Short,
     More,
     BadRanges,
     BadPulse,
 }
 
+impl fmt::Display for Message {
+    fn fmt<W: fmt::Write>(&self, f: &mut fmt::Formatter<W>) -> fmt::Result {
+        f.write_str(match self {
+            Message::Short => "short",
+            Message::More => "more",
+            Message::BadRanges => "refused 19",
+            Message::BadPulse => "refused 20",
+        })
+    }
+}
+
 // The bytes of the pulses that are read.
 const MOST_BYTES: usize = 65536;
 
 #[tactic(auto, unfolding(crate::specs::Output::message_of))]
-pub(crate) fn told(measured: Measured, bytes: usize) -> Message
-    ensures { result ≡ message_of measured bytes }
+pub(crate) fn told(ended: Result<(), PulsesError>, bytes: usize) -> Option<Message>
+    ensures { result ≡ message_of ended bytes }
 {
-    match measured {
-        Measured::Given => {
-            if MOST_BYTES < bytes {
-                return Message::More;
-            }
-            if bytes % WORD_BYTES != 0 {
-                return Message::Short;
-            }
-            Message::Nothing
-        }
-        Measured::ShortList => Message::Nothing,
-        Measured::BadRanges => Message::BadRanges,
-        Measured::BadPulse => Message::BadPulse,
+    match ended {
+        Ok(()) if MOST_BYTES < bytes => Some(Message::More),
+        Ok(()) if bytes % WORD_BYTES != 0 => Some(Message::Short),
+        Ok(()) => None,
+        Err(PulsesError::ShortList) => None,
+        Err(PulsesError::BadRanges) => Some(Message::BadRanges),
+        Err(PulsesError::BadPulse) => Some(Message::BadPulse),
     }
 }
 
 // How many of so many pulses got a slot: all, or none where the call was refused.
-pub(crate) fn given(measured: Measured, count: usize) -> usize
-    ensures { (result ≡ given_of measured count) × (result ≤ count) }
+pub(crate) fn given(ended: Result<(), PulsesError>, count: usize) -> usize
+    ensures { (result ≡ given_of ended count) × (result ≤ count) }
 {
-    match measured {
-        Measured::Given => count,
-        Measured::ShortList => 0,
-        Measured::BadRanges => 0,
-        Measured::BadPulse => 0,
+    match ended {
+        Ok(()) => count,
+        Err(_) => 0,
     }
 }

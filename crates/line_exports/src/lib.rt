@@ -8,22 +8,17 @@ ghost use Rattle.loads.specs.Load.{CalledLoad};
 ghost use Rattle.loads.specs.Relied.{Relied as ReliedLoads};
 ghost use Rattle.logs.specs.Log.{CalledLog, long_in};
 ghost use Rattle.logs.specs.Relied.{Relied};
-ghost use Rattle.pulses.specs.Conversion.{CalledSlots, number_of, range_in, setting_in};
+ghost use Rattle.pulses.specs.Conversion.{CalledSlots, setting_in};
 ghost use Rattle.pulses.specs.Relied.{Relied as ReliedPulses};
 
 use capture::slots_of_pulses;
 use contenders::{Contender, Contenders, Verdict};
-use line::numbers::{
-    REFUSED_NO_SLOT, REFUSED_PULSE, REFUSED_RANGES, REFUSED_SHORT_LIST, REFUSED_WINDOW,
-};
-use loads::Loaded;
 use meter::load;
-use pulses::{Measured, Range, Setting};
+use pulses::{Range, Setting};
 use reader::read_log;
 use records::gathered;
 
-// Two numbers in one: of a verdict the refusal's number in the upper half and the place in the lower, of a range the most
-// and the least.
+// A verdict as one number: the refusal's number in the upper half, the place in the lower.
 const WORD_HALF: u32 = 65536;
 
 // The core's contest with its verdict as one number.
@@ -66,33 +61,13 @@ pub extern "C" fn iebus_read_log(
     }
 }
 
-fn range(word: u32) -> Range
-    ensures { result ≡ range_in word }
-{
-    Range {
-        least: (word % WORD_HALF) as u16,
-        most: (word / WORD_HALF) as u16,
-    }
-}
-
 fn setting(zero: u32, one: u32, start: u32) -> Setting
     ensures { result ≡ setting_in zero one start }
 {
     Setting {
-        zero: range(zero),
-        one: range(one),
-        start: range(start),
-    }
-}
-
-fn measured_number(measured: Measured) -> u32
-    ensures { result ≡ number_of measured }
-{
-    match measured {
-        Measured::Given => 0,
-        Measured::ShortList => REFUSED_SHORT_LIST as u32,
-        Measured::BadRanges => REFUSED_RANGES as u32,
-        Measured::BadPulse => REFUSED_PULSE as u32,
+        zero: Range::in_word(zero),
+        one: Range::in_word(one),
+        start: Range::in_word(start),
     }
 }
 
@@ -109,8 +84,10 @@ pub extern "C" fn iebus_slots(
         slots.new }
     ensures relied { ReliedPulses (setting_in zero one start) }
 {
-    let measured = slots_of_pulses(setting(zero, one, start), pulses, slots);
-    measured_number(measured)
+    if let Err(error) = slots_of_pulses(setting(zero, one, start), pulses, slots) {
+        return error.number();
+    }
+    0
 }
 
 // The figure after every slot of a log, and the largest with the first place where it was reached: 0, or 12, 25 or 16.
@@ -127,19 +104,16 @@ pub extern "C" fn iebus_load(
         place.old result figures.new largest.new place.new }
     ensures relied { ReliedLoads w }
 {
-    let loaded = load(w, slots, figures);
-    match loaded {
-        Loaded::Peak(most, first) => {
-            *largest = most;
-            *place = first as u64;
+    match load(w, slots, figures) {
+        Ok(Some(peak)) => {
+            *largest = peak.largest;
+            *place = peak.place as u64;
             0
         }
-        Loaded::Empty => {
+        Ok(None) => {
             *largest = 0;
             0
         }
-        Loaded::ShortList => REFUSED_SHORT_LIST as u32,
-        Loaded::BadWindow => REFUSED_WINDOW as u32,
-        Loaded::NoSlot => REFUSED_NO_SLOT as u32,
+        Err(error) => error.number(),
     }
 }

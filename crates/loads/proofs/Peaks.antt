@@ -11,7 +11,7 @@ use lib.Seq.{get_or-append_seam}
 use Rattle.line.proofs.Either.{below_or_not}
 use Rattle.line.proofs.First.{first_at_most, first_holds, first_is, first_le, first_none}
 use Rattle.line.specs.Places.{first_place}
-use Rattle.loads.specs.declared.Loaded.TheVariants.{Peak}
+use Rattle.std.specs.Prelude.{Some}
 use Rattle.loads.specs.Figures.{largest_of, place_of}
 use Rattle.loads.specs.Load.{peak_of}
 use Rattle.loads.specs.Relied.{Peaks}
@@ -78,7 +78,7 @@ peaks l some =
           omega (arith, unlike, largest_most l i (omega (arith, before, first_le test l)));
     }
 
-pub peak_told : (l : List ℕ) → 0 < length l → peak_of l ≡ Peak (largest_of l) (place_of l)
+pub peak_told : (l : List ℕ) → 0 < length l → peak_of l ≡ Some (record { largest = largest_of l; place = place_of l })
 unfolding peak_of
 peak_told [] h = absurd (omega (arith, h))
 peak_told (f ∷ l) h = refl

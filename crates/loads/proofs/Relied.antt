@@ -2,7 +2,7 @@
 use mathlib.Core.Bool.{Bool, true, false, false≢true}
 use mathlib.Core.List.{List, [], ◌∷◌, ◌++◌}
 use mathlib.Core.Logic.{⊎_elim}
-use mathlib.Core.Path.{◌≡◌, refl, sym, ◌∙◌}
+use mathlib.Core.Path.{◌≡◌, refl, sym, ap, ◌∙◌}
 use Prim.Native.Nat.{ℕ, ◌+◌, ◌<◌, ◌≤◌}
 use native.Mathlib.Omega.{arith}
 use borrow.Author.Tests.{le-ltb, lt-ltb, ltb-false}
@@ -15,10 +15,11 @@ use Rattle.line.specs.Numbers.{most_window, slot_idle}
 use Rattle.line.specs.Places.{placed}
 use Rattle.logs.proofs.Frames.{none_stray, stray_found}
 use Rattle.logs.specs.Frames.{stray_in}
-use Rattle.loads.specs.declared.Loaded.{Loaded}
-use Rattle.loads.specs.declared.Loaded.TheVariants.{Peak, Empty, ShortList, BadWindow, NoSlot}
+use Rattle.std.specs.Prelude.{Option, Some, None, Ok, Err}
+use Rattle.loads.specs.declared.LoadError.TheVariants.{ShortList, BadWindow, NoSlot}
+use Rattle.loads.specs.declared.Peak.{Peak}
 use Rattle.loads.specs.Figures.{bad_window, busy_of, figure_at, figures_of, largest_of, place_of}
-use Rattle.loads.specs.Load.{end_of, peak_of}
+use Rattle.loads.specs.Load.{Ending, end_of, peak_of}
 use Rattle.loads.specs.Relied.{AllSlots, Peaks, Relied, Right, Window}
 use Rattle.loads.proofs.Peaks.{peak_told, peaks}
 use Rattle.loads.proofs.Windows.{begun, full, none_idle, one_busy, one_idle}
@@ -50,17 +51,17 @@ slots_right slots all =
 -- ---- the answers
 
 module _ (w room : ℕ) (slots : List ℕ) where
-  short_list : room < length slots → end_of w room slots ≡ ShortList
+  short_list : room < length slots → end_of w room slots ≡ Err ShortList
   unfolding end_of
   short_list e = rw (lt-ltb room (length slots) e) refl
 
-  bad-window : length slots ≤ room → (Window w → ⊥) → end_of w room slots ≡ BadWindow
+  bad-window : length slots ≤ room → (Window w → ⊥) → end_of w room slots ≡ Err BadWindow
   unfolding end_of
   bad-window e n =
       ⊎_elim (λ (t : bad_window w ≡ true). rw (le-ltb room (length slots) e, t) refl) (λ f. absurd (n (window w f)))
       (either (bad_window w))
 
-  no_slot : length slots ≤ room → Window w → (AllSlots slots → ⊥) → end_of w room slots ≡ NoSlot
+  no_slot : length slots ≤ room → Window w → (AllSlots slots → ⊥) → end_of w room slots ≡ Err NoSlot
   unfolding end_of
   no_slot e r n =
       ⊎_elim (λ (t : stray_in slots ≡ true). rw (le-ltb room (length slots) e, window_right w r, t) refl)
@@ -69,37 +70,42 @@ module _ (w room : ℕ) (slots : List ℕ) where
   as_many : length (figures_of w slots) ≡ length slots
   as_many = placed_length (figure_at w slots) (length slots)
 
-  given : Right w room slots → end_of w room slots ≡ Peak (largest_of (figures_of w slots)) (place_of (figures_of w slots))
+  given : Right w room slots
+      → end_of w room slots
+      ≡ Ok (Some (record { largest = largest_of (figures_of w slots); place = place_of (figures_of w slots) }))
   unfolding end_of
   given r =
       rw (le-ltb room (length slots) r.fits, window_right w r.window, slots_right slots r.words)
-      (peak_told (figures_of w slots) (omega (arith, as_many, r.some)))
+      (ap Ok (peak_told (figures_of w slots) (omega (arith, as_many, r.some))))
 
-empty : (w room : ℕ) → Window w → end_of w room [] ≡ Empty
+empty : (w room : ℕ) → Window w → end_of w room [] ≡ Ok None
 unfolding end_of peak_of placed stray_in
 empty w room r = rw (le-ltb room 0 (omega arith), window_right w r) refl
 
--- of five endings the last is chosen only where no test holds
-chosen_last : (a b c : Bool) (told : Loaded) {largest place : ℕ}
-    → pick a ShortList (pick b BadWindow (pick c NoSlot told)) ≡ Peak largest place
-    → (a ≡ false) × (b ≡ false) × (c ≡ false) × (told ≡ Peak largest place)
-chosen_last false false false told e = (refl, refl, refl, e)
-chosen_last true b c told e = let no : ◌≡◌ {A = ℕ} 0 1 = cc in absurd (omega (arith, no))
-chosen_last false true c told e = let no : ◌≡◌ {A = ℕ} 0 1 = cc in absurd (omega (arith, no))
-chosen_last false false true told e = let no : ◌≡◌ {A = ℕ} 0 1 = cc in absurd (omega (arith, no))
+-- of four endings the last is chosen only where no test holds
+abbrev chosen : Bool → Bool → Bool → Option Peak → Ending
+chosen a b c found = pick a (Err ShortList) (pick b (Err BadWindow) (pick c (Err NoSlot) (Ok found)))
 
-peak_is : (l : List ℕ) (largest place : ℕ) → peak_of l ≡ Peak largest place
-    → (0 < length l) × (largest_of l ≡ largest) × (place_of l ≡ place)
+chosen_last : (a b c : Bool) (found : Option Peak) (peak : Peak) → chosen a b c found ≡ Ok (Some peak)
+    → (a ≡ false) × (b ≡ false) × (c ≡ false) × (found ≡ Some peak)
+chosen_last false false false found peak e = (refl, refl, refl, (cc))
+chosen_last true b c found peak e = cc
+chosen_last false true c found peak e = cc
+chosen_last false false true found peak e = cc
+
+peak_is : (l : List ℕ) (peak : Peak) → peak_of l ≡ Some peak
+    → (0 < length l) × (largest_of l ≡ peak.largest) × (place_of l ≡ peak.place)
 unfolding peak_of
-peak_is [] largest place e = let no : ◌≡◌ {A = ℕ} 0 1 = cc in absurd (omega (arith, no))
-peak_is (f ∷ l) largest place e = (omega arith, (cc), (cc))
+peak_is [] peak e = cc
+peak_is (f ∷ l) peak e = (omega arith, (cc), (cc))
 
-taken : (w room : ℕ) (slots : List ℕ) (largest place : ℕ) → end_of w room slots ≡ Peak largest place
-    → Right w room slots × Peaks (figures_of w slots) largest place
+taken : (w room : ℕ) (slots : List ℕ) (peak : Peak) → end_of w room slots ≡ Ok (Some peak)
+    → Right w room slots × Peaks (figures_of w slots) peak.largest peak.place
 unfolding end_of
-taken w room slots largest place e =
-    let tests = chosen_last (ltb room (length slots)) (bad_window w) (stray_in slots) (peak_of (figures_of w slots)) e in
-    let told = peak_is (figures_of w slots) largest place tests.3 in (
+taken w room slots peak e =
+    let found = peak_of (figures_of w slots) in
+    let tests = chosen_last (ltb room (length slots)) (bad_window w) (stray_in slots) found peak e in
+    let told = peak_is (figures_of w slots) peak tests.3 in (
       record {
         some = omega (arith, told.0, as_many w room slots);
         fits = ltb-false room (length slots) tests.0;

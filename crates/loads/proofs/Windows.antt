@@ -7,6 +7,7 @@ use native.Mathlib.Omega.{arith}
 use borrow.Author.Tests.{ne_eqb}
 use lib.Dec.{eqb}
 use lib.ListN.{drop, get_or, length, length-append, length-drop, take}
+use Rattle.std.proofs.lemmas.List.Sums.{sum_by-append, sum_by-cons}
 use lib.Seq.{drop-append-le, drop-append_seam, take-append_seam}
 use Rattle.line.specs.Choice.{pick}
 use Rattle.line.specs.Numbers.{slot_idle}
@@ -22,12 +23,10 @@ busy_le slot = by_test (eqb slot slot_idle) where
   by_test false = omega arith
 
 pub none_idle : busy_of [] ≡ 0
-unfolding busy_of
 none_idle = refl
 
 pub busy_more : (slot : ℕ) (slots : List ℕ) → busy_of (slot ∷ slots) ≡ busy slot + busy_of slots
-unfolding busy_of
-busy_more slot slots = refl
+busy_more slot slots = sum_by-cons busy slot slots
 
 pub one_idle : (slots : List ℕ) → busy_of (slot_idle ∷ slots) ≡ busy_of slots
 one_idle slots = omega (arith, busy_more slot_idle slots)
@@ -36,10 +35,6 @@ pub one_busy : (slot : ℕ) (slots : List ℕ) → (slot ≡ slot_idle → ⊥) 
 one_busy slot slots n =
     let one : busy slot ≡ 1 = rw (ne_eqb slot slot_idle n) refl in
     busy_more slot slots ∙ omega (arith, one)
-
-busy_append : (a b : List ℕ) → busy_of (a ++ b) ≡ busy_of a + busy_of b
-busy_append [] b = omega (arith, none_idle)
-busy_append (s ∷ a) b = omega (arith, busy_more s (a ++ b), busy_more s a, busy_append a b)
 
 busy_one : (slot : ℕ) → busy_of (slot ∷ []) ≡ busy slot
 busy_one slot = omega (arith, busy_more slot [], none_idle)
@@ -59,7 +54,7 @@ pub still_open : (w : ℕ) (l : List ℕ) (slot : ℕ) → length l < w
 still_open w l slot h =
     let long : length (l ++ slot ∷ []) - w ≡ 0 = omega (arith, length-append l (slot ∷ [])) in
     let all : length l - w ≡ 0 = omega arith in
-    rw (long, all) (busy_append l (slot ∷ []) ∙ rw (busy_one slot) refl)
+    rw (long, all) (sum_by-append busy l (slot ∷ []) ∙ rw (busy_one slot) refl)
 
 -- then the oldest leaves it
 pub now_full : (w : ℕ) (l : List ℕ) (slot : ℕ) → 0 < w → w ≤ length l
@@ -71,7 +66,7 @@ now_full w l slot some h =
     let new : busy_of (latest w (l ++ slot ∷ [])) ≡ busy_of rest + busy slot =
     ap (λ (n : ℕ). busy_of (drop n (l ++ slot ∷ []))) from
     ∙ ap busy_of (drop-append-le (length l - w + 1) l (slot ∷ []) inside)
-    ∙ busy_append rest (slot ∷ []) ∙ rw (busy_one slot) refl
+    ∙ sum_by-append busy rest (slot ∷ []) ∙ rw (busy_one slot) refl
     in
     let old : busy_of (latest w l) ≡ busy (get_or l (length l - w) 0) + busy_of rest =
     ap busy_of (cut l (length l - w) (omega arith)) ∙ busy_more _ rest

@@ -4,7 +4,7 @@ use Rattle.std.specs.Prelude.{true, List, [], ◌∷◌, ◌++◌, ◌≡◌, re
 use Rattle.line.specs.Cases.{Case, ◌gives◌, all_given}
 use Rattle.line.specs.Places.{first_place, placed}
 use Rattle.logs.specs.Frames.{stray_in}
-use Rattle.loads.specs.Figures.{busy_of, figures_of, largest_of}
+use Rattle.loads.specs.Figures.{figures_of, largest_of}
 use Rattle.loads.specs.Load.{end_of, largest_after, number_of, peak_of, place_after, written_of}
 
 -- idle, then a start and two levels, idle, a level outside all frames, idle
@@ -86,5 +86,5 @@ written_cases =
     ∷ []
 
 pub load_cases : all_given (figure_cases ++ peak_cases ++ answer_cases ++ written_cases) ≡ true
-unfolding all_given busy_of first_place placed largest_of peak_of stray_in end_of written_of number_of largest_after place_after
+unfolding all_given first_place placed largest_of peak_of stray_in end_of written_of number_of largest_after place_after
 load_cases = refl

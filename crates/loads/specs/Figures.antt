@@ -1,6 +1,6 @@
 -- Ticket 14: "the number of slots that are not idle among the latest w, w from 1 to 4,096, after every slot, and the
 -- largest such number with the first place where it was reached."
-use Rattle.std.specs.Prelude.{Bool, ◌||◌, List, [], ◌∷◌, ℕ, ◌+◌, ◌-◌, max, eqb, ltb, drop, length, take}
+use Rattle.std.specs.Prelude.{Bool, ◌||◌, List, [], ◌∷◌, ℕ, ◌+◌, ◌-◌, max, sum_by, eqb, ltb, drop, length, take}
 use Rattle.line.specs.Choice.{pick}
 use Rattle.line.specs.Numbers.{most_window, slot_idle}
 use Rattle.line.specs.Places.{first_place, placed}
@@ -14,9 +14,8 @@ abbrev pub busy : ℕ → ℕ
 busy slot = pick (eqb slot slot_idle) 0 1
 
 -- how many there are of them
-unfoldable pub busy_of : List ℕ → ℕ
-busy_of [] = 0
-busy_of (s ∷ ss) = busy s + busy_of ss
+abbrev pub busy_of : List ℕ → ℕ
+busy_of slots = sum_by busy slots
 
 -- "the latest w" of some slots; "Before w slots have come, count those there are."
 abbrev pub latest : ℕ → List ℕ → List ℕ

@@ -1,9 +1,10 @@
 -- What a planner relies on, of every window and every log: how a call ends, and each figure, told in the words of
 -- ticket 14 and by lists that are cut where the window begins and ends, so that a definition that says something else
 -- is refused. What is written, and what a host in C is told, are told once, in `Load.antt`.
-use Rattle.std.specs.Prelude.{List, [], ◌∷◌, ◌++◌, ◌≡◌, ℕ, ◌+◌, ◌<◌, ◌≤◌, get_or, length}
+use Rattle.std.specs.Prelude.{List, Ok, Err, Some, None, [], ◌∷◌, ◌++◌, ◌≡◌, ℕ, ◌+◌, ◌<◌, ◌≤◌, get_or, length}
 use Rattle.line.specs.Numbers.{most_window, slot_idle}
-use Rattle.loads.specs.declared.Loaded.TheVariants.{Peak, Empty, ShortList, BadWindow, NoSlot}
+use Rattle.loads.specs.declared.LoadError.TheVariants.{ShortList, BadWindow, NoSlot}
+use Rattle.loads.specs.declared.Peak.{Peak}
 use Rattle.loads.specs.Figures.{busy_of, figures_of, largest_of, place_of}
 use Rattle.loads.specs.Load.{end_of}
 
@@ -33,16 +34,17 @@ pub record Right (w room : ℕ) (slots : List ℕ) : Type 0 where
 pub record Relied (w : ℕ) : Type 0 where
   -- "12, ahead of the others"; "25, w out of range", also with an empty log; "16, checked after 25 over the whole log";
   -- "An empty log gives 0 and no place"
-  pub short_list : (room : ℕ) (slots : List ℕ) → room < length slots → end_of w room slots ≡ ShortList
-  pub bad-window : (room : ℕ) (slots : List ℕ) → length slots ≤ room → (Window w → ⊥) → end_of w room slots ≡ BadWindow
+  pub short_list : (room : ℕ) (slots : List ℕ) → room < length slots → end_of w room slots ≡ Err ShortList
+  pub bad-window : (room : ℕ) (slots : List ℕ) → length slots ≤ room → (Window w → ⊥) → end_of w room slots ≡ Err BadWindow
   pub no_slot : (room : ℕ) (slots : List ℕ) → length slots ≤ room → Window w → (AllSlots slots → ⊥)
-      → end_of w room slots ≡ NoSlot
-  pub empty : (room : ℕ) → Window w → end_of w room [] ≡ Empty
+      → end_of w room slots ≡ Err NoSlot
+  pub empty : (room : ℕ) → Window w → end_of w room [] ≡ Ok None
   -- else the largest figure and its first place are told, and nothing else is told so
   pub given : (room : ℕ) (slots : List ℕ) → Right w room slots
-      → end_of w room slots ≡ Peak (largest_of (figures_of w slots)) (place_of (figures_of w slots))
-  pub taken : (room : ℕ) (slots : List ℕ) (largest place : ℕ) → end_of w room slots ≡ Peak largest place
-      → Right w room slots × Peaks (figures_of w slots) largest place
+      → end_of w room slots
+      ≡ Ok (Some (record { largest = largest_of (figures_of w slots); place = place_of (figures_of w slots) }))
+  pub taken : (room : ℕ) (slots : List ℕ) (peak : Peak) → end_of w room slots ≡ Ok (Some peak)
+      → Right w room slots × Peaks (figures_of w slots) peak.largest peak.place
   -- "after every slot"
   pub as_many : (slots : List ℕ) → length (figures_of w slots) ≡ length slots
   -- "among the latest w": whatever came before these and comes after them

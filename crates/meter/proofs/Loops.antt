@@ -1,58 +1,32 @@
 -- What each loop over the slots keeps from turn to turn.
-use mathlib.Core.Bool.{false, ◌||◌}
+use mathlib.Core.Bool.{Bool, ◌||◌}
 use mathlib.Core.Logic.{⊎_elim}
 use mathlib.Core.List.{List, [], ◌∷◌, ◌++◌}
-use mathlib.Core.Path.{◌≡◌, refl, sym, ap, ◌∙◌}
+use mathlib.Core.Path.{◌≡◌, refl, sym, ap}
 use Prim.Native.Nat.{ℕ, ◌+◌, ◌-◌, ◌<◌, ◌≤◌}
 use native.Mathlib.Numerals.{add-one}
 use native.Mathlib.Omega.{arith}
 use borrow.Author.Tests.{le-ltb, lt-ltb}
 use lib.Dec.{ltb}
-use lib.ListN.{drop, drop_of_length-le, get_or, length, set}
+use lib.ListN.{drop, get_or, length, set}
 use Rattle.line.proofs.Either.{below_or_not}
 use Rattle.line.proofs.Placed.{Placed, all_placed, none_placed, one_placed, placed_length}
-use Rattle.line.proofs.Places.{cut}
 use Rattle.line.specs.Numbers.{slot_idle}
 use Rattle.line.specs.Places.{placed}
 use Rattle.logs.specs.Frames.{stray_in}
 use Rattle.loads.proofs.Peaks.{Most, most_kept, most_new, most_none}
-use Rattle.loads.proofs.Windows.{busy_le, busy_more, none_idle}
-use Rattle.loads.specs.Figures.{busy, busy_of, figure_at, figures_of}
-use Rattle.meter.specs.declared.Most as declared
+use Rattle.loads.specs.Figures.{busy, figure_at, figures_of}
+use Rattle.loads.specs.declared.Peak.{Peak}
+use Rattle.std.specs.List.{list_any}
 use Rattle.meter.specs.Counting.{count_at, higher_of, leaving_at}
 use Rattle.meter.proofs.Counting.{count_most, count_none, count_step}
 
 -- ---- strays: a word that is no slot word, among some
 
-pub no_stray : stray_in [] ≡ false
+pub any_stray : (ws : List ℕ) → list_any (ltb slot_idle) ws ≡ stray_in ws
 unfolding stray_in
-no_stray = refl
-
-pub one_stray : (w : ℕ) (ws : List ℕ) → stray_in (w ∷ ws) ≡ (ltb slot_idle w || stray_in ws)
-unfolding stray_in
-one_stray w ws = refl
-
--- ---- busy_of: i slots have been counted
-
-pub record Counted (slots : List ℕ) (count i : ℕ) : Type 0 where
-  pub within : i ≤ length slots
-  pub few : count ≤ i
-  pub rest : busy_of slots ≡ count + busy_of (drop i slots)
-
-pub counted_none : (slots : List ℕ) → Counted slots 0 0
-counted_none slots = record { within = omega arith; few = omega arith; rest = omega arith }
-
-pub counted_one : {slots : List ℕ} {count i come : ℕ} → Counted slots count i → i < length slots
-    → come ≡ busy (get_or slots i 0) → Counted slots (count + come) (i + 1)
-counted_one {slots} {count} {i} {come} k h is =
-    let one = busy_le (get_or slots i 0) in
-    let more = ap busy_of (cut slots i h) ∙ busy_more (get_or slots i 0) (drop (i + 1) slots) in
-    record { within = omega arith; few = omega (arith, k.few, is, one); rest = omega (arith, k.rest, more, is) }
-
-pub counted_all : {slots : List ℕ} {count i : ℕ} → Counted slots count i → length slots ≤ i → count ≡ busy_of slots
-counted_all {slots} {count} {i} k end =
-    let none = ap busy_of (drop_of_length-le slots end) ∙ none_idle in
-    omega (arith, k.rest, none)
+any_stray [] = refl
+any_stray (w ∷ ws) = ap (λ (b : Bool). ltb slot_idle w || b) (any_stray ws)
 
 -- ---- put_figures: i slots have their figures
 
@@ -80,14 +54,11 @@ module _ {w : ℕ} {slots first now : List ℕ} {count largest place i come left
   figure_sum : figure_at w slots i + left ≡ count + come
   figure_sum = omega (arith, count_step w slots i some inside, g.counted, is, leaves)
 
-  pub left_counted : left ≤ count + come
-  left_counted = omega (arith, figure_sum)
-
   pub figure_is : count + come - left ≡ figure_at w slots i
   figure_is = omega (arith, figure_sum)
 
 -- the largest, with the figure there
-most_higher : (m : declared.Most) {l : List ℕ} (figure place : ℕ) → Most l m.largest m.place → place ≡ length l
+most_higher : (m : Peak) {l : List ℕ} (figure place : ℕ) → Most l m.largest m.place → place ≡ length l
     → Most (l ++ figure ∷ []) (higher_of m figure place).largest (higher_of m figure place).place
 unfolding higher_of
 most_higher m {l} figure place most is =
@@ -96,7 +67,7 @@ most_higher m {l} figure place most is =
     (below_or_not m.largest figure)
 
 -- one more stands in the list, and the largest is told with it
-pub written_one : {w : ℕ} {slots first now : List ℕ} {count i figure : ℕ} (m : declared.Most) {next : declared.Most}
+pub written_one : {w : ℕ} {slots first now : List ℕ} {count i figure : ℕ} (m : Peak) {next : Peak}
     → Written w slots first now count m.largest m.place i → i < length slots → i < length now
     → figure ≡ figure_at w slots i → next ≡ higher_of m figure i
     → Written w slots first (set now i figure) figure next.largest next.place (i + 1)

@@ -3,28 +3,21 @@
 // public function has a `requires`, and nothing is assumed.
 #![tactic(auto)]
 
-ghost use Rattle.std.specs.Prelude.{◌≡◌, ◌++◌, ◌<◌, ◌≤◌, drop, length};
+ghost use Rattle.std.specs.Prelude.{◌≡◌, ◌++◌, ◌<◌, ◌≤◌, IfErr, OnOk, false, drop, length};
 ghost use Rattle.line.specs.Numbers.{most_window};
 ghost use Rattle.logs.specs.Frames.{stray_in};
 ghost use Rattle.loads.specs.Figures.{bad_window, busy, busy_of, figures_of, largest_of, place_of};
-ghost use Rattle.loads.specs.Load.{Loads};
+ghost use Rattle.loads.specs.Load.{Loads, end_of};
 ghost use Rattle.loads.specs.Relied.{Relied};
 ghost use Rattle.meter.specs.Counting.{higher_of, leaving_at};
 
 use line::numbers::{MOST_WINDOW, SLOT_IDLE};
-use loads::Loaded;
-
-// The largest figure so far, and the first place where it was reached.
-#[derive(Clone, Copy)]
-struct Most {
-    largest: u32,
-    place: usize,
-}
+use loads::{LoadError, Peak};
 
 fn bad_window(w: u32) -> bool
     ensures { result ≡ bad_window w }
 {
-    (w < 1) | (MOST_WINDOW < w)
+    !(1..=MOST_WINDOW).contains(&w)
 }
 
 // Whether some word is no slot word. To look at every word and test once is cheaper than a test of each.
@@ -32,10 +25,8 @@ fn strays(slots: &[u32]) -> bool
     ensures { result ≡ stray_in slots.now }
 {
     let mut found = false;
-    let mut i: usize = 0;
-    while i < slots.len() {
-        found = found | (SLOT_IDLE < slots[i]);
-        i += 1;
+    for slot in slots {
+        found |= SLOT_IDLE < *slot;
     }
     found
 }
@@ -43,23 +34,14 @@ fn strays(slots: &[u32]) -> bool
 fn busy(slot: u32) -> u32
     ensures { result ≡ busy slot }
 {
-    if slot == SLOT_IDLE {
-        return 0;
-    }
-    1
+    u32::from(slot != SLOT_IDLE)
 }
 
 // How many of some slots are not idle.
 pub fn busy_of(slots: &[u32]) -> usize
     ensures { result ≡ busy_of slots.now }
 {
-    let mut count: usize = 0;
-    let mut i: usize = 0;
-    while i < slots.len() {
-        count += busy(slots[i]) as usize;
-        i += 1;
-    }
-    count
+    slots.iter().filter(|slot| **slot != SLOT_IDLE).count()
 }
 
 // What leaves the window with the slot at a place: the slot that came w before it.
@@ -67,66 +49,76 @@ fn leaving(w: usize, slots: &[u32], place: usize) -> u32
     requires { place < length slots.now }
     ensures { result ≡ leaving_at w slots.now place }
 {
-    if place < w {
-        return 0;
-    }
-    busy(slots[place - w])
+    if place < w { 0 } else { busy(slots[place - w]) }
 }
 
 // One figure more.
 #[tactic(auto, unfolding(crate::specs::Counting::higher_of))]
-fn higher(most: Most, figure: u32, place: usize) -> Most
-    ensures { result ≡ higher_of most figure place }
+fn higher(peak: Peak, figure: u32, place: usize) -> Peak
+    ensures { result ≡ higher_of peak figure place }
 {
-    if most.largest < figure {
-        return Most {
+    if peak.largest < figure {
+        Peak {
             largest: figure,
             place,
-        };
+        }
+    } else {
+        peak
     }
-    most
 }
 
-fn put_figures(w: usize, slots: &[u32], figures: &mut [u32]) -> Most
+fn put_figures(w: usize, slots: &[u32], figures: &mut [u32]) -> Peak
     requires { (0 < w) × (w ≤ most_window) × (length slots.now ≤ length figures.old) }
     ensures figures_after { figures.new ≡ figures_of w slots.now
         ++ drop (length slots.now) figures.old }
-    ensures largest_value { (result.largest ≡ largest_of (figures_of w slots.now))
-        × (result.place ≡ place_of (figures_of w slots.now)) }
+    ensures largest_value { result ≡ record {
+      largest = largest_of (figures_of w slots.now);
+      place = place_of (figures_of w slots.now);
+    } }
 {
-    let mut most = Most {
+    let mut peak = Peak {
         largest: 0,
         place: 0,
     };
     let mut count: u32 = 0;
-    let mut i: usize = 0;
-    while i < slots.len() {
-        count = count + busy(slots[i]) - leaving(w, slots, i);
+    for (i, slot) in slots.iter().enumerate() {
+        count = count + busy(*slot) - leaving(w, slots, i);
         figures[i] = count;
-        most = higher(most, count, i);
-        i += 1;
+        peak = higher(peak, count, i);
     }
-    most
+    peak
+}
+
+// What is refused of a window and a log, where there is room for so many figures.
+#[tactic(auto, unfolding(loads::specs::Load::end_of))]
+fn checked(w: u32, slots: &[u32], room: usize) -> Result<(), LoadError>
+    ensures refused { IfErr result (λ e. Err e ≡ end_of w room slots.now) }
+    ensures fits { OnOk result (length slots.now ≤ room) }
+    ensures window { OnOk result (bad_window w ≡ false) }
+    ensures words { OnOk result (stray_in slots.now ≡ false) }
+{
+    if room < slots.len() {
+        return Err(LoadError::ShortList);
+    }
+    if bad_window(w) {
+        return Err(LoadError::BadWindow);
+    }
+    if strays(slots) {
+        return Err(LoadError::NoSlot);
+    }
+    Ok(())
 }
 
 // The figure after every slot goes to the front of the list. Places past the last figure keep their contents, and so
 // does the whole list where the call is refused.
-pub fn load(w: u32, slots: &[u32], figures: &mut [u32]) -> Loaded
+#[tactic(auto, using(crate::proofs::Ends::refused))]
+pub fn load(w: u32, slots: &[u32], figures: &mut [u32]) -> Result<Option<Peak>, LoadError>
     ensures whole { Loads w slots.now figures.old result figures.new }
     ensures relied { Relied w }
 {
-    if figures.len() < slots.len() {
-        return Loaded::ShortList;
+    checked(w, slots, figures.len())?;
+    if slots.is_empty() {
+        return Ok(None);
     }
-    if bad_window(w) {
-        return Loaded::BadWindow;
-    }
-    if strays(slots) {
-        return Loaded::NoSlot;
-    }
-    if slots.len() == 0 {
-        return Loaded::Empty;
-    }
-    let most = put_figures(w as usize, slots, figures);
-    Loaded::Peak(most.largest, most.place)
+    Ok(Some(put_figures(w as usize, slots, figures)))
 }

@@ -3,31 +3,14 @@ use mathlib.Core.Logic.{◌⊎◌, inl, inr, ⊎_elim}
 use mathlib.Core.Path.{◌≡◌, ◌∙◌, ap, refl, sym, subst}
 use mathlib.Core.List.{List, [], ◌++◌, append_assoc, append-nil}
 use Prim.Native.Nat.{ℕ, ◌+◌, ◌-◌, ◌≤◌, ◌<◌, min}
-use native.Mathlib.Numerals.{add-one}
 use native.Mathlib.Nat.{add-zero}
 use native.Mathlib.Omega.{arith}
-use lib.ListN.{length, take, drop, get_or, set, length-append, length-take}
-use lib.Seq.{paste, paste-suc, paste-zero, length-paste, take-paste, drop-paste, drop-drop, take-append-add}
+use lib.ListN.{length, take, drop, length-append, length-take}
+use lib.Seq.{paste, paste-zero, length-paste, take-paste, drop-paste, drop-drop, take-append-add}
 use lib.Seq.{take-append-le, take-length}
 use Rattle.line.proofs.Either.{below_or_not}
 use Rattle.line.proofs.Places.{take_min}
 use Rattle.pieces.specs.Pieces.{Put, fitting}
-
--- one byte more of a piece
-pub paste_more : (before piece text : List ℕ) (at i : ℕ) → text ≡ paste before at piece i
-    → at + i < length before → i < length piece
-    → set text (at + i) (get_or piece i 0) ≡ paste before at piece (i + 1)
-paste_more before piece text at i is room more =
-    ap (λ (t : List ℕ). set t (at + i) (get_or piece i 0)) is
-    ∙ paste-suc before at piece i 0 room more
-    ∙ ap (paste before at piece) (sym (add-one i))
-
-pub done : {text piece after : List ℕ} {at count : ℕ} → count ≡ fitting text at piece
-    → after ≡ paste text at piece count → Put text at piece (at + count) after
-done {text} {piece} {after} {at} {count} e is = record {
-  ends = ap (λ (n : ℕ). at + n) e;
-  written = is ∙ ap (paste text at piece) e;
-}
 
 pub nothing : (text : List ℕ) (at : ℕ) → Put text at [] at text
 nothing text at =

@@ -35,8 +35,5 @@ pub fn read_full<R: Read>(input: &mut R, bytes: &mut [u8]) -> usize
 pub fn argument(rt: &impl Env, place: usize, bytes: &mut [u8]) -> usize
     ensures { result ≤ length bytes.new }
 {
-    match rt.arg(place, bytes) {
-        Ok(count) => count,
-        Err(_) => 0,
-    }
+    rt.arg(place, bytes).unwrap_or(0)
 }

@@ -3,79 +3,54 @@
 // nothing is assumed.
 #![tactic(auto)]
 
-ghost use Rattle.std.specs.Prelude.{◌≡◌, ◌-◌, ◌≤◌, min};
-ghost use Rattle.pieces.specs.Decimal.{grown, no_number, number_of};
+ghost use Rattle.std.specs.Prelude.{◌≡◌, min};
+ghost use Rattle.pieces.specs.Decimal.{grown, number_of};
 ghost use Rattle.pieces.specs.Pieces.{Put};
 
 mod input;
 
 pub use input::{argument, read_full};
 
-// Numbers go up to 65,535; this stands for none.
-pub const NO_NUMBER: u32 = 0x1_0000;
-
+// Kept, though `min` is the same: other crates call it, and two edits are refused by what it promises.
 pub fn least(a: usize, b: usize) -> usize
     ensures { result ≡ min a b }
 {
-    if a < b {
-        return a;
-    }
-    b
-}
-
-// How many places there are from one on.
-fn room(len: usize, at: usize) -> usize
-    ensures { result ≡ len - at }
-{
-    if len < at {
-        return 0;
-    }
-    len - at
+    a.min(b)
 }
 
 // Writes a piece into the text, from a place on and as far as there is room, and gives the place behind it.
 pub fn put(text: &mut [u8], at: usize, piece: &[u8]) -> usize
     ensures { Put text.old at piece.now result text.new }
 {
-    let count = least(piece.len(), room(text.len(), at));
-    let mut i: usize = 0;
-    while i < count {
-        text[at + i] = piece[i];
-        i += 1;
+    if text.len() <= at {
+        return at;
     }
+    let count = piece.len().min(text.len() - at);
+    text[at..at + count].copy_from_slice(&piece[..count]);
     at + count
 }
 
+// A number with a digit more, up to 65,535.
 #[tactic(auto, unfolding(crate::specs::Decimal::grown))]
-fn grown(n: u32, byte: u8) -> u32
-    requires { n ≤ no_number }
-    ensures { (result ≡ grown n byte) × (result ≤ no_number) }
+fn grown(n: u16, byte: u8) -> Option<u16>
+    ensures { result ≡ grown n byte }
 {
-    if byte < b'0' {
-        return NO_NUMBER;
+    match byte {
+        b'0'..=b'9' => n.checked_mul(10)?.checked_add(u16::from(byte - b'0')),
+        _ => None,
     }
-    if b'9' < byte {
-        return NO_NUMBER;
-    }
-    let next = n * 10 + (byte - b'0') as u32;
-    if NO_NUMBER <= next {
-        return NO_NUMBER;
-    }
-    next
 }
 
-// The number that a text says, NO_NUMBER where it says none.
-pub fn number(text: &[u8]) -> u32
-    ensures { (result ≡ number_of text.now) × (result ≤ no_number) }
+// The number that a text says, up to 65,535, where it says one.
+pub fn number(text: &[u8]) -> Option<u16>
+    ensures { result ≡ number_of text.now }
 {
-    if text.len() == 0 {
-        return NO_NUMBER;
+    if text.is_empty() {
+        return None;
     }
-    let mut n: u32 = 0;
-    let mut i: usize = 0;
-    while i < text.len() {
-        n = grown(n, text[i]);
-        i += 1;
+    let mut n = 0;
+    for byte in text {
+        n = grown(n, *byte)?;
     }
-    n
+    Some(n)
 }

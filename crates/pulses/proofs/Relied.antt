@@ -5,6 +5,7 @@ use mathlib.Core.Logic.{⊎_elim}
 use mathlib.Core.Path.{◌≡◌, refl, sym, ap, ap₂, subst, ◌∙◌}
 use Prim.Native.Nat.{ℕ, zero, suc, ◌+◌, ◌*◌, ◌<◌, ◌≤◌}
 use native.Mathlib.Omega.{arith}
+use Rattle.std.specs.Prelude.{Ok, Err}
 use borrow.Author.Tests.{eqb-false, le-ltb, lt-ltb, ltb-false}
 use lib.Dec.{ltb}
 use lib.ListN.{get_or, length, length-map}
@@ -13,8 +14,8 @@ use Rattle.line.proofs.Places.{get_or_map}
 use Rattle.line.specs.Choice.{pick}
 use Rattle.line.specs.Numbers.{slot_idle}
 use Rattle.pulses.specs.declared.Setting.{Setting}
-use Rattle.pulses.specs.declared.Measured.TheVariants.{Given, ShortList, BadRanges, BadPulse}
-use Rattle.pulses.specs.Conversion.{end_of, number_of}
+use Rattle.pulses.specs.declared.PulsesError.TheVariants.{ShortList, BadRanges, BadPulse}
+use Rattle.pulses.specs.Conversion.{Ending, end_of, number_of}
 use Rattle.pulses.specs.Ranges.{bad_ranges}
 use Rattle.pulses.specs.Relied.{Becomes, Disjoint, Ordered, Relied, Sound, TrueWidths, Widths, exact_slots, exactly}
 use Rattle.pulses.specs.Symbols.{bad_in, bad_pulse, least_in, most_in, slots_of, symbol_of}
@@ -24,13 +25,11 @@ use Rattle.pulses.proofs.Symbols.{becomes, exact_alike}
 -- ---- "20, a pulse with least above most", wherever it stands
 
 ordered : (pulses : List ℕ) → bad_in pulses ≡ false → Ordered pulses
-unfolding bad_in
 ordered [] e i inside = absurd (omega (arith, inside))
 ordered (p ∷ ps) e zero inside = ltb-false (most_in p) (least_in p) (neither (bad_pulse p) (bad_in ps) e).0
 ordered (p ∷ ps) e (suc i) inside = ordered ps (neither (bad_pulse p) (bad_in ps) e).1 i (omega (arith, inside))
 
 none_bad : (pulses : List ℕ) → Ordered pulses → bad_in pulses ≡ false
-unfolding bad_in
 none_bad [] o = refl
 none_bad (p ∷ ps) o =
     none_of (le-ltb (most_in p) (least_in p) (o 0 (omega arith)))
@@ -39,36 +38,38 @@ none_bad (p ∷ ps) o =
 -- ---- the answers
 
 -- the last of four endings is chosen only where no test holds
-chosen_last : (a b c : Bool) → pick a ShortList (pick b BadRanges (pick c BadPulse Given)) ≡ Given
-    → (b ≡ false) × (c ≡ false)
+abbrev chosen : Bool → Bool → Bool → Ending
+chosen a b c = pick a (Err ShortList) (pick b (Err BadRanges) (pick c (Err BadPulse) (Ok tt)))
+
+chosen_last : (a b c : Bool) → chosen a b c ≡ Ok tt → (b ≡ false) × (c ≡ false)
 chosen_last false false false e = (refl, refl)
 chosen_last true b c e = absurd (eqb-false 12 0 refl (ap number_of e))
 chosen_last false true c e = absurd (eqb-false 19 0 refl (ap number_of e))
 chosen_last false false true e = absurd (eqb-false 20 0 refl (ap number_of e))
 
 module _ (s : Setting) (room : ℕ) (pulses : List ℕ) where
-  short_list : room < length pulses → end_of s room pulses ≡ ShortList
+  short_list : room < length pulses → end_of s room pulses ≡ Err ShortList
   unfolding end_of
   short_list e = rw (lt-ltb room (length pulses) e) refl
 
-  bad-ranges : length pulses ≤ room → (Sound s → ⊥) → end_of s room pulses ≡ BadRanges
+  bad-ranges : length pulses ≤ room → (Sound s → ⊥) → end_of s room pulses ≡ Err BadRanges
   unfolding end_of
   bad-ranges e n =
       ⊎_elim (λ (t : bad_ranges s ≡ true). rw (le-ltb room (length pulses) e, t) refl) (λ f. absurd (n (sound s f)))
       (either (bad_ranges s))
 
-  bad-pulse : length pulses ≤ room → Sound s → (Ordered pulses → ⊥) → end_of s room pulses ≡ BadPulse
+  bad-pulse : length pulses ≤ room → Sound s → (Ordered pulses → ⊥) → end_of s room pulses ≡ Err BadPulse
   unfolding end_of
   bad-pulse e w n =
       ⊎_elim (λ (t : bad_in pulses ≡ true). rw (le-ltb room (length pulses) e, not_bad s w, t) refl)
       (λ f. absurd (n (ordered pulses f))) (either (bad_in pulses))
 
-  given : length pulses ≤ room → Sound s → Ordered pulses → end_of s room pulses ≡ Given
+  given : length pulses ≤ room → Sound s → Ordered pulses → end_of s room pulses ≡ Ok tt
   unfolding end_of
   given e w o = rw (le-ltb room (length pulses) e, not_bad s w, none_bad pulses o) refl
 
   -- nothing is wrong where each pulse gets its slot
-  taken : end_of s room pulses ≡ Given → Sound s × Ordered pulses
+  taken : end_of s room pulses ≡ Ok tt → Sound s × Ordered pulses
   unfolding end_of
   taken e =
       let tests = chosen_last (ltb room (length pulses)) (bad_ranges s) (bad_in pulses) e in

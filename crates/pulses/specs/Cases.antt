@@ -5,7 +5,7 @@ use Rattle.line.specs.Choice.{bit_of}
 use Rattle.pulses.specs.declared.Setting.{Setting}
 use Rattle.pulses.specs.Conversion.{end_of, number_of, setting_in, written_of}
 use Rattle.pulses.specs.Ranges.{bad_ranges}
-use Rattle.pulses.specs.Symbols.{bad_in, slots_of, symbol_of}
+use Rattle.pulses.specs.Symbols.{slots_of, symbol_of}
 
 -- a pulse and a range as a word: the least in the lower half
 abbrev pub word : ℕ → ℕ → ℕ
@@ -85,5 +85,5 @@ answer_cases =
     ∷ []
 
 pub pulse_cases : all_given (symbol_cases ++ range_cases ++ answer_cases) ≡ true
-unfolding all_given symbol_of bad_ranges bad_in end_of written_of
+unfolding all_given symbol_of bad_ranges end_of written_of
 pulse_cases = refl

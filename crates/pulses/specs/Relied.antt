@@ -1,10 +1,10 @@
 -- What a user relies on, of every setting and every list of pulses: laws of the definitions before, told in the words
 -- of ticket 8 and width by width, so that a definition that says something else is refused.
-use Rattle.std.specs.Prelude.{List, map, ◌↔◌, ◌≡◌, ℕ, ◌+◌, ◌*◌, ◌<◌, ◌≤◌, get_or, length}
+use Rattle.std.specs.Prelude.{List, map, Ok, Err, ◌↔◌, ◌≡◌, ℕ, ◌+◌, ◌*◌, ◌<◌, ◌≤◌, get_or, length}
 use Rattle.line.specs.Numbers.{slot_high, slot_idle, slot_low, slot_start}
 use Rattle.pulses.specs.declared.Range.{Range}
 use Rattle.pulses.specs.declared.Setting.{Setting}
-use Rattle.pulses.specs.declared.Measured.TheVariants.{Given, ShortList, BadRanges, BadPulse}
+use Rattle.pulses.specs.declared.PulsesError.TheVariants.{ShortList, BadRanges, BadPulse}
 use Rattle.pulses.specs.Conversion.{end_of}
 use Rattle.pulses.specs.Symbols.{least_in, most_in, slots_of, symbol_of}
 
@@ -74,14 +74,14 @@ pub record Relied (s : Setting) : Type 0 where
   pub most : (least most : ℕ) → least < 0x1_0000 → most_in (least + most * 0x1_0000) ≡ most
   -- "12, ahead of the others"; "19", whatever the pulses are; "20 .. checked after 19 over the whole list"; else each
   -- pulse gets its slot
-  pub short_list : (room : ℕ) (pulses : List ℕ) → room < length pulses → end_of s room pulses ≡ ShortList
+  pub short_list : (room : ℕ) (pulses : List ℕ) → room < length pulses → end_of s room pulses ≡ Err ShortList
   pub bad-ranges : (room : ℕ) (pulses : List ℕ) → length pulses ≤ room → (Sound s → ⊥)
-      → end_of s room pulses ≡ BadRanges
+      → end_of s room pulses ≡ Err BadRanges
   pub bad-pulse : (room : ℕ) (pulses : List ℕ) → length pulses ≤ room → Sound s → (Ordered pulses → ⊥)
-      → end_of s room pulses ≡ BadPulse
+      → end_of s room pulses ≡ Err BadPulse
   pub given : (room : ℕ) (pulses : List ℕ) → length pulses ≤ room → Sound s → Ordered pulses
-      → end_of s room pulses ≡ Given
-  pub taken : (room : ℕ) (pulses : List ℕ) → end_of s room pulses ≡ Given → Sound s × Ordered pulses
+      → end_of s room pulses ≡ Ok tt
+  pub taken : (room : ℕ) (pulses : List ℕ) → end_of s room pulses ≡ Ok tt → Sound s × Ordered pulses
   pub as_many : (pulses : List ℕ) → length (slots_of s pulses) ≡ length pulses
   pub becomes : Disjoint s → (pulses : List ℕ) → Ordered pulses → (i : ℕ) → i < length pulses
       → Becomes s (least_in (get_or pulses i 0)) (most_in (get_or pulses i 0)) (get_or (slots_of s pulses) i slot_idle)

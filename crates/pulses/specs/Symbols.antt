@@ -1,6 +1,7 @@
 -- Ticket 8: "A pulse becomes a symbol exactly if its whole interval lies in that symbol's range; otherwise it becomes
 -- idle".
-use Rattle.std.specs.Prelude.{Bool, false, ◌&&◌, ◌||◌, List, [], ◌∷◌, map, ℕ, ◌/◌, ◌%◌, leb, ltb}
+use Rattle.std.specs.List.{list_any}
+use Rattle.std.specs.Prelude.{Bool, ◌&&◌, List, map, ℕ, ◌/◌, ◌%◌, leb, ltb}
 use Rattle.line.specs.Choice.{pick}
 use Rattle.line.specs.Numbers.{slot_high, slot_idle, slot_low, slot_start}
 use Rattle.pulses.specs.declared.Range.{Range}
@@ -31,6 +32,5 @@ slots_of s pulses = map (λ (pulse : ℕ). symbol_of s (least_in pulse) (most_in
 abbrev pub bad_pulse : ℕ → Bool
 bad_pulse pulse = ltb (most_in pulse) (least_in pulse)
 
-unfoldable pub bad_in : List ℕ → Bool
-bad_in [] = false
-bad_in (p ∷ ps) = bad_pulse p || bad_in ps
+abbrev pub bad_in : List ℕ → Bool
+bad_in pulses = list_any bad_pulse pulses

@@ -1,20 +1,14 @@
-use mathlib.Core.Path.{refl}
-use Prim.Native.Nat.{◌-◌}
+use mathlib.Core.Path.{◌∙◌, ap}
+use native.Mathlib.Omega.{arith}
 use lib.Dec.{ltb}
-use Rattle.line.proofs.Looked.{looked_all, looked_none, looked_one}
+use lib.Seq.{take_all}
 use Rattle.line.specs.Numbers.{slot_idle}
-use Rattle.logs.specs.Frames.{stray_in}
-use Rattle.meter.proofs.Loops.{no_stray, one_stray}
+use Rattle.std.specs.List.{list_any}
+use Rattle.meter.proofs.Loops.{any_stray}
 use Rattle.meter.proofs.strays.Goals as goal
-
-pub loop-i-init : goal.loop-i-init
-loop-i-init c =
-    looked_none stray_in _
-
-pub loop-i-preserved : goal.loop-i-preserved
-loop-i-preserved c =
-    looked_one (ltb slot_idle) _ one_stray c.loop-i.invariant c.loop-i-test.true refl
 
 pub returns : goal.returns
 returns c =
-    looked_all no_stray c.loop-i.invariant c.loop-i-test.false
+    c.loop-slot.invariant
+    ∙ ap (list_any (ltb slot_idle)) (take_all c.loop-slot.slot-index c.args.slots.now (omega arith))
+    ∙ any_stray c.args.slots.now

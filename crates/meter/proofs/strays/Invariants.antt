@@ -1,11 +1,9 @@
-use Prim.Native.Nat.{◌-◌}
-use lib.ListN.{length}
-use Rattle.line.proofs.Looked.{Looked}
-use Rattle.logs.specs.Frames.{stray_in}
+use mathlib.Core.Path.{◌≡◌}
+use lib.Dec.{ltb}
+use lib.ListN.{take}
+use Rattle.line.specs.Numbers.{slot_idle}
+use Rattle.std.specs.List.{list_any}
 use Rattle.meter.proofs.strays.Given as goal
 
-abbrev pub invariant-loop-i : goal.invariant-loop-i
-invariant-loop-i l = Looked stray_in l.slots l.found l.i
-
-abbrev pub decreases-loop-i : goal.decreases-loop-i
-decreases-loop-i l = length l.slots - l.i
+abbrev pub invariant-loop-slot : goal.invariant-loop-slot
+invariant-loop-slot l = l.found ≡ list_any (ltb slot_idle) (take l.slot-index l.slots)

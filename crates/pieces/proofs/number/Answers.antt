@@ -1,24 +1,21 @@
 use borrow.Author.Rules.{rules}
-use Rattle.pieces.proofs.Digits.{all_read, no_digit, nothing_read, one_read}
+use mathlib.Core.Path.{sym, ◌∙◌}
+use native.Mathlib.Omega.{arith}
+use Rattle.pieces.proofs.Digits.{all_read, no_digit, one_read, some_digit}
 use Rattle.pieces.proofs.number.Goals as goal
 
-pub returns-then-text-eq0 : goal.returns-then-text-eq0
-returns-then-text-eq0 c =
-    (no_digit _ c.if-text-eq0.true, search rules)
+pub returns-then-is_empty : goal.returns-then-is_empty
+returns-then-is_empty c = no_digit _ (search rules)
 
-pub loop-i-init : goal.loop-i-init
-loop-i-init c =
-    nothing_read _
+pub returns-in_err-n : goal.returns-in_err-n
+returns-in_err-n c =
+    c.from_residual.ensures
+    ∙ sym (c.loop-byte.invariant ∙ one_read _ _ _ c.loop-byte-test.true c.in_err-n.ensures)
+    ∙ some_digit _ (omega arith)
 
-pub grown-n-requires : goal.grown-n-requires
-grown-n-requires c =
-    c.loop-i.invariant.small
-
-pub loop-i-preserved : goal.loop-i-preserved
-loop-i-preserved c =
-    one_read c.loop-i.invariant c.loop-i-test.true
-    c.grown-n.ensures.0 c.grown-n.ensures.1
+pub loop-byte-preserved : goal.loop-byte-preserved
+loop-byte-preserved c = c.loop-byte.invariant ∙ one_read _ _ _ c.loop-byte-test.true c.in_ok-n.ensures
 
 pub returns : goal.returns
 returns c =
-    (all_read c.loop-i.invariant c.loop-i-test.false c.if-text-eq0.false, c.loop-i.invariant.small)
+    sym (all_read _ _ _ c.loop-byte-test.false) ∙ sym c.loop-byte.invariant ∙ some_digit _ (search rules)

@@ -1,10 +1,9 @@
-use Prim.Native.Nat.{◌-◌, ◌*◌, ◌≤◌}
-use Rattle.words.specs.Words.{byte_at}
-use Rattle.line.proofs.Placed.{Placed}
+use Prim.Native.Nat.{◌*◌}
+use mathlib.Core.List.{◌++◌}
+use mathlib.Core.Path.{◌≡◌}
+use lib.ListN.{drop}
+use Rattle.words.specs.Words.{bytes_of}
 use Rattle.words.proofs.put_bytes.Given as goal
 
 abbrev pub invariant-loop-i : goal.invariant-loop-i
-invariant-loop-i l = (l.i ≤ l.count * 4) × Placed (byte_at l.words) l.initial.bytes l.bytes l.i
-
-abbrev pub decreases-loop-i : goal.decreases-loop-i
-decreases-loop-i l = l.count * 4 - l.i
+invariant-loop-i l = l.bytes ≡ bytes_of l.words (l.i * 4) ++ drop (l.i * 4) l.initial.bytes

@@ -1,30 +1,16 @@
-use borrow.Author.Rules.{rules}
 use native.Mathlib.Omega.{arith}
 use mathlib.Core.Path.{◌≡◌}
 use Rattle.line.proofs.Placed.{all_placed, none_placed, one_placed}
 use Rattle.words.proofs.put_words.Goals as goal
 
 pub loop-i-init : goal.loop-i-init
-loop-i-init c =
-    (search rules, none_placed _ _)
-
-pub bounds-words-i : goal.bounds-words-i
-bounds-words-i c =
-    omega (arith, c.loop-i.invariant.1.long)
+loop-i-init c = none_placed _ _
 
 pub loop-i-preserved : goal.loop-i-preserved
 loop-i-preserved c =
-    (search rules, one_placed _ c.loop-i.invariant.1 (omega (arith, c.loop-i.invariant.1.long)) c.word_at.ensures)
-
-pub shape_of-words : goal.shape_of-words
-shape_of-words c =
-    c.loop-i.invariant.1.long
-
-pub returns-clause-count : goal.returns-clause-count
-returns-clause-count c =
-    c.least-count.ensures
+    one_placed _ c.loop-i.invariant (omega (arith, c.loop-i.invariant.long)) c.word_at.ensures
 
 pub returns-clause-written : goal.returns-clause-written
 returns-clause-written c =
-    let all : c.loop-i.i ≡ c.least-count.result = omega arith in
-    rw all at (all_placed c.loop-i.invariant.1)
+    let all : c.loop-i.i ≡ c.min-count.result = omega arith in
+    rw all at (all_placed c.loop-i.invariant)

@@ -4,6 +4,4 @@ use Rattle.iebus_load.proofs.texts.put_plot.Goals as goal
 
 pub returns : goal.returns
 unfolding plot_of
-returns c =
-    then (then c.put_head-at.ensures c.put_curve-at.ensures)
-    c.put_tail.ensures
+returns c = then (then c.put_head-at.ensures c.put_curve-at.ensures) c.put_tail.ensures
