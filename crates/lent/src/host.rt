@@ -4,7 +4,7 @@ ghost use Rattle.rules.specs.Set.{core·regs};
 ghost use Rattle.lent.specs.Both.{Does, ReadsFrom, TakesOut, Tells, WritesTo};
 
 use crate::answer::Outcome;
-use crate::buffers::{count_of, is_clear, rbf_front, tbf_push, without_oldest};
+use crate::buffers::{count_of, front, is_clear, push, without_oldest};
 use crate::step::{Done, Lent};
 use line::numbers::{
     CTR_RESET, KIND_READ, KIND_WRITE, RBF_BYTES, REFUSED_KIND, REFUSED_STRAY_BIT, REG_CTR, REG_RBF,
@@ -28,7 +28,7 @@ impl Lent {
     {
         let core = self.core;
         if register == REG_TBF {
-            let sent = tbf_push(tbf, self.tbf, v);
+            let sent = push(tbf, self.tbf, v);
             self.tbf = sent;
             return self.done(Outcome::Written);
         }
@@ -57,7 +57,7 @@ impl Lent {
         ensures { TakesOut self rbf.now result }
     {
         let stored = self.rbf;
-        let byte = rbf_front(rbf, stored);
+        let byte = front(rbf, stored);
         let rest = without_oldest(RBF_BYTES, stored);
         self.rbf = rest;
         self.done(Outcome::Read(byte))

@@ -4,7 +4,7 @@ ghost use Rattle.lent.specs.Both.{Acts, Clashes, Drives, Runs, Sees, SlotActs, S
 ghost use Rattle.lent.specs.Both.{Works, done, reset_lent};
 
 use crate::answer::{Outcome, answer_to};
-use crate::buffers::{count_of, is_clear, no_bytes, rbf_after, tbf_after, tbf_front};
+use crate::buffers::{count_of, front, is_clear, rbf_after, tbf_after};
 use crate::plain::plain;
 use circles::Span;
 use line::numbers::{
@@ -45,10 +45,11 @@ impl Lent {
     pub(crate) fn reset() -> Lent
         ensures { result ≡ reset_lent }
     {
-        let core = reset_core();
-        let tbf = no_bytes();
-        let rbf = no_bytes();
-        Lent { core, tbf, rbf }
+        Lent {
+            core: reset_core(),
+            tbf: Span::EMPTY,
+            rbf: Span::EMPTY,
+        }
     }
 
     // What the unit drives in the next slot: 0, 1 (released) or 2 (start).
@@ -68,7 +69,7 @@ impl Lent {
         let stored = self.rbf;
         Seen {
             waiting: count_of(TBF_BYTES, sent),
-            front: tbf_front(tbf, sent),
+            front: front(tbf, sent),
             clear: is_clear(RBF_BYTES, stored),
         }
     }

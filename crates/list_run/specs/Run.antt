@@ -1,10 +1,10 @@
 -- The paper's number for an outcome, a unit after a list of words, and what private functions over lent buffers promise
 -- each other.
-use Rattle.std.specs.Prelude.{List, [], ◌∷◌, ◌++◌, ◌≡◌, ℕ, ◌+◌, ◌/◌, ◌%◌, eqb, length, drop, get_or, set}
+use Rattle.std.specs.Prelude.{List, [], ◌∷◌, ◌++◌, ◌≡◌, ℕ, ◌+◌, eqb, length, drop, get_or, take}
 use Rattle.line.specs.Choice.{pick}
 use Rattle.line.specs.Numbers.{rbf_bytes, refused_short_list, tbf_bytes}
 use Rattle.isolation.specs.Runs.{run, answers}
-use Rattle.lists.specs.Bytes.{bytes_of, word_from, words_of}
+use Rattle.lists.specs.Bytes.{bytes_of, bytes_of_word, word_from, words_of}
 use Rattle.lent.specs.Both.{state_in}
 use Rattle.rules.specs.Machine.{unit}
 use Rattle.lent.specs.declared.step.Lent.{Lent}
@@ -32,9 +32,7 @@ abbrev pub word_at : List ℕ → ℕ → ℕ
 word_at s at = word_from (get_or s at 0) (get_or s (at + 1) 0) (get_or s (at + 2) 0) (get_or s (at + 3) 0)
 
 abbrev pub word_put : List ℕ → ℕ → ℕ → List ℕ
-word_put s at w =
-    set (set (set (set s at (w % 256)) (at + 1) (w / 0x100 % 256)) (at + 2) (w / 0x1_0000 % 256)) (at + 3)
-    (w / 0x100_0000 % 256)
+word_put s at w = take at s ++ (bytes_of_word w ++ drop 4 (drop at s))
 
 -- ---- a unit whose buffers are lent: the bytes of TBF and of RBF
 

@@ -1,10 +1,9 @@
 // The list run "over byte slices, each word little-endian; it returns 0 or a refusal".
-ghost use Rattle.std.specs.Prelude.{◌≡◌, ◌+◌, ◌<◌, ◌≤◌, length};
+ghost use Rattle.std.specs.Prelude.{◌≡◌, ◌+◌, ◌≤◌, length};
 ghost use Rattle.unit.specs.Unit.{state_of};
 ghost use Rattle.lists.specs.Bytes.{CalledBytes, byte_refusal, state_after, words_of};
 ghost use Rattle.list_run.specs.Run.{RunsSpelled, Whole, unit_left, word_at, word_put};
 
-use crate::run::unit_of;
 use answers::{answer_word, byte_refusal};
 use lent::step::Lent;
 use line::numbers::{RBF_BYTES, TBF_BYTES};
@@ -21,21 +20,12 @@ pub struct RanBytes {
     pub number: u32,
 }
 
-fn wide(byte: u8) -> u32
-    ensures { (result ≡ byte) × (result < 256) }
-{
-    byte as u32
-}
-
 // The word that starts at a place of a byte list, the lowest byte first.
 fn word_at(bytes: &[u8], at: usize) -> u32
     requires { at + 4 ≤ length bytes.now }
     ensures { result ≡ word_at bytes.now at }
 {
-    wide(bytes[at])
-        + wide(bytes[at + 1]) * 0x100
-        + wide(bytes[at + 2]) * 0x1_0000
-        + wide(bytes[at + 3]) * 0x100_0000
+    u32::from_le_bytes([bytes[at], bytes[at + 1], bytes[at + 2], bytes[at + 3]])
 }
 
 // A word written from a place of a byte list on, the lowest byte first.
@@ -43,10 +33,7 @@ fn put_word(bytes: &mut [u8], at: usize, word: u32)
     requires { at + 4 ≤ length bytes.old }
     ensures { bytes.new ≡ word_put bytes.old at word }
 {
-    bytes[at] = (word % 256) as u8;
-    bytes[at + 1] = (word / 0x100 % 256) as u8;
-    bytes[at + 2] = (word / 0x1_0000 % 256) as u8;
-    bytes[at + 3] = (word / 0x100_0000 % 256) as u8;
+    bytes[at..at + WORD_BYTES].copy_from_slice(&word.to_le_bytes());
 }
 
 // The words that bytes spell, run in order by a unit whose buffers are lent; what stands past the last answer is kept.
@@ -62,19 +49,15 @@ fn run_spelled(
     ensures { RunsSpelled lent words.now answers.old answers.new
         tbf.old tbf.new rbf.old rbf.new result }
 {
-    let mut at: usize = 0;
-    while at < words.len() {
+    for at in (0..words.len()).step_by(WORD_BYTES) {
         let after = lent.step(word_at(words, at), tbf, rbf);
         lent = after.lent;
-        let answer = after.answer;
         // "A refused word in a list does not stop the list": its answer is of kind 15.
-        let Answer::Given(reply) = answer else {
-            put_word(answers, at, answer_word(answer));
-            at += WORD_BYTES;
+        let Answer::Given(reply) = after.answer else {
+            put_word(answers, at, answer_word(after.answer));
             continue;
         };
         put_word(answers, at, answer_word(Answer::Given(reply)));
-        at += WORD_BYTES;
     }
     lent
 }
@@ -94,21 +77,11 @@ pub fn run_bytes(from: Unit, words: &[u8], answers: &mut [u8]) -> RanBytes
     if number != 0 {
         return RanBytes { unit: from, number };
     }
-    let core = from.core;
-    let tbf = from.tbf;
-    let rbf = from.rbf;
-    let mut sent = tbf.bytes;
-    let mut stored = rbf.bytes;
-    let sent_span = tbf.span;
-    let stored_span = rbf.span;
-    let lent = Lent {
-        core,
-        tbf: sent_span,
-        rbf: stored_span,
-    };
-    let after = run_spelled(lent, words, answers, &mut sent, &mut stored);
+    let mut tbf = from.tbf.bytes;
+    let mut rbf = from.rbf.bytes;
+    let left = run_spelled(from.lent(), words, answers, &mut tbf, &mut rbf);
     RanBytes {
-        unit: unit_of(after, sent, stored),
+        unit: Unit::from_lent(left, tbf, rbf),
         number,
     }
 }

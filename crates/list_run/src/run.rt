@@ -1,6 +1,6 @@
 // "A list run takes a lent list of words and writes each answer into a second lent list, from a given state."
 ghost use Rattle.std.specs.Prelude.{◌≡◌, ◌≤◌, length};
-ghost use Rattle.unit.specs.Unit.{state_of, unit_in};
+ghost use Rattle.unit.specs.Unit.{state_of};
 ghost use Rattle.lists.specs.Run.{Called};
 ghost use Rattle.list_run.specs.Run.{RunsLent, Whole, number_of, unit_left};
 
@@ -8,7 +8,6 @@ use answers::answer_word;
 use lent::step::Lent;
 use line::numbers::{RBF_BYTES, TBF_BYTES};
 use rules::answer::Answer;
-use unit::buffers::{Rbf, Tbf};
 use unit::step::Unit;
 
 // How a run ends: every word has its answer, or the answer list is shorter than the word list.
@@ -37,40 +36,17 @@ fn run_lent(
     ensures { RunsLent lent words.now answers.old answers.new tbf.old
         tbf.new rbf.old rbf.new result }
 {
-    let mut i: usize = 0;
-    while i < words.len() {
-        let after = lent.step(words[i], tbf, rbf);
+    for (i, word) in words.iter().enumerate() {
+        let after = lent.step(*word, tbf, rbf);
         lent = after.lent;
-        let answer = after.answer;
         // "A refused word in a list does not stop the list": its answer is of kind 15.
-        let Answer::Given(reply) = answer else {
-            answers[i] = answer_word(answer);
-            i += 1;
+        let Answer::Given(reply) = after.answer else {
+            answers[i] = answer_word(after.answer);
             continue;
         };
         answers[i] = answer_word(Answer::Given(reply));
-        i += 1;
     }
     lent
-}
-
-pub(crate) fn unit_of(lent: Lent, sent: [u8; TBF_BYTES], stored: [u8; RBF_BYTES]) -> Unit
-    ensures { result ≡ unit_in lent sent stored }
-{
-    let core = lent.core;
-    let tbf = lent.tbf;
-    let rbf = lent.rbf;
-    Unit {
-        core,
-        tbf: Tbf {
-            bytes: sent,
-            span: tbf,
-        },
-        rbf: Rbf {
-            bytes: stored,
-            span: rbf,
-        },
-    }
 }
 
 // The words run from the unit given. The answer to words[i] stands at answers[i]; places past the last answer keep
@@ -89,21 +65,11 @@ pub fn run(from: Unit, words: &[u32], answers: &mut [u32]) -> Finished
             outcome: Outcome::ShortList,
         };
     }
-    let core = from.core;
-    let tbf = from.tbf;
-    let rbf = from.rbf;
-    let mut sent = tbf.bytes;
-    let mut stored = rbf.bytes;
-    let sent_span = tbf.span;
-    let stored_span = rbf.span;
-    let lent = Lent {
-        core,
-        tbf: sent_span,
-        rbf: stored_span,
-    };
-    let after = run_lent(lent, words, answers, &mut sent, &mut stored);
+    let mut tbf = from.tbf.bytes;
+    let mut rbf = from.rbf.bytes;
+    let left = run_lent(from.lent(), words, answers, &mut tbf, &mut rbf);
     Finished {
-        unit: unit_of(after, sent, stored),
+        unit: Unit::from_lent(left, tbf, rbf),
         outcome: Outcome::Ran,
     }
 }

@@ -1,7 +1,7 @@
 -- "A refusal changes no state", of the unit whole: each place of its arrays stays too, held or not.
 use Prim.Native.Nat.{ℕ}
 use mathlib.Core.Bool.{Bool, true, false}
-use mathlib.Core.Path.{◌≡◌, refl, sym, ap, ◌∙◌}
+use mathlib.Core.Path.{◌≡◌, refl, ap, ◌∙◌}
 use Rattle.line.specs.Choice.{pick}
 use Rattle.line.specs.Slot.{Class, slot, host, class_of}
 use Rattle.line.specs.declared.slot.Slot.{Slot}
@@ -13,7 +13,6 @@ use Rattle.rules.proofs.Ruled.{given_is_none, refused_unchanged}
 use Rattle.rules.specs.Registers.{Told, wrote, restarted, gave, denied, register_of, told_of, value_of}
 use Rattle.rules.specs.State.{State}
 use Rattle.rules.specs.Step.{answer_of, clashes, said_as, slot_said, step_of, told_said}
-use Rattle.rules.specs.declared.answer.Answer.{Answer}
 use Rattle.rules.specs.declared.answer.Answer.TheVariants.{Given, Refused}
 use Rattle.rules.specs.declared.answer.Reply.{Reply}
 use Rattle.rules.specs.declared.state.Core.{Core}
@@ -68,8 +67,3 @@ refused_whole u w n e =
     let b = buffers_of u in
     ap (λ (t : State). unit_of t.core (after_calls (word_calls s w) b)) (refused_unchanged s w n e)
     ∙ ap (λ (calls : Calls). unit_of u.core (after_calls calls b)) (word_uncalled s w n e)
-
--- what the rules leave of a unit, and that this is the unit as it was where the answer is a refusal
-pub whole_unchanged : (u v : Unit) (w : ℕ) (a : Answer) → v ≡ unit_by u w → a ≡ answer_of (state_of u) w
-    → (v ≡ unit_by u w) × ((n : ℕ) → a ≡ Refused n → v ≡ u)
-whole_unchanged u v w a whole said = (whole, λ n e. whole ∙ refused_whole u w n (sym said ∙ e))

@@ -11,8 +11,8 @@ use Rattle.lent.proofs.step.Lent.write_done.Goals as goal
 
 pub returns-then-register-eq-REG_TBF : goal.returns-then-register-eq-REG_TBF
 returns-then-register-eq-REG_TBF c = (
-  ap (λ (b : Buffer). length b.bytes) c.tbf_push-sent.ensures ∙ (call_unmoved _ _ (push c.args.v)).as_long,
-  λ r full. rw c.done.ensures (filled_state c.args.self c.args.v _ _ r _ c.tbf_push-sent.ensures full
+  ap (λ (b : Buffer). length b.bytes) c.push-sent.ensures ∙ (call_unmoved _ _ (push c.args.v)).as_long,
+  λ r full. rw c.done.ensures (filled_state c.args.self c.args.v _ _ r _ c.push-sent.ensures full
       ∙ done_tbf (loan_in c.args.self c.args.tbf.now r) c.args.register
       c.args.v (eq-eqb _ _ c.if-register-eq-REG_TBF.true)),
 )
