@@ -4,25 +4,64 @@
 
 ghost use Rattle.std.specs.Prelude.{◌≡◌};
 ghost use Rattle.lists.specs.Bytes.{count_refusal};
-ghost use Rattle.rules.specs.Step.{word_of};
+ghost use Rattle.answers.specs.Refused.{error_number, number_in};
+ghost use Rattle.rules.specs.Step.{refused_word, word_of};
 
 use line::numbers::{
     KIND_REFUSED, KIND_TAKEN, KIND_VALUE, KIND_WRITTEN, REFUSED_BYTE_COUNT, REFUSED_SHORT_LIST,
 };
 use rules::answer::{Answer, Reply};
+use std::error::Error;
+use std::fmt;
 
 // How many bytes spell a word.
 const WORD_BYTES: usize = 4;
 
+// Why a run over bytes is refused, and nothing written.
+#[derive(Clone, Copy, Debug, PartialEq, Eq)]
+pub enum ListError {
+    ByteCount,
+    ShortList,
+}
+
+impl From<ListError> for u32 {
+    ghost from_gives = { λ error number. number ≡ error_number error };
+
+    fn from(error: ListError) -> u32 {
+        match error {
+            ListError::ByteCount => REFUSED_BYTE_COUNT as u32,
+            ListError::ShortList => REFUSED_SHORT_LIST as u32,
+        }
+    }
+}
+
+impl fmt::Display for ListError {
+    fn fmt<W: fmt::Write>(&self, f: &mut fmt::Formatter<W>) -> fmt::Result {
+        f.write_str(match self {
+            ListError::ByteCount => "the bytes are no whole words",
+            ListError::ShortList => "the list for the answers is too short",
+        })
+    }
+}
+
+impl Error for ListError {}
+
 #[tactic(auto, unfolding(rules::specs::Step::word_of))]
 fn reply_word(reply: Reply) -> u32
-    ensures { result ≡ word_of (Answer.Given reply) }
+    ensures { result ≡ word_of (Ok reply) }
 {
     match reply {
         Reply::Taken(d) => KIND_TAKEN * 0x1000_0000 + d as u32 % 4 * 256,
         Reply::Written(d) => KIND_WRITTEN * 0x1000_0000 + d as u32 % 4 * 256,
         Reply::Read(v, d) => KIND_VALUE * 0x1000_0000 + d as u32 % 4 * 256 + v as u32 % 256,
     }
+}
+
+// "15 refused (bits 7-0 number)", of any number.
+pub fn refused_word(number: u8) -> u32
+    ensures { result ≡ refused_word number }
+{
+    KIND_REFUSED * 0x1000_0000 + number as u32 % 256
 }
 
 // "Answers: 8 slot taken, 9 written, 10 read (bits 7-0 value), 15 refused (bits 7-0 number). Kinds 8 to 10 carry in
@@ -32,22 +71,22 @@ pub fn answer_word(answer: Answer) -> u32
     ensures { result ≡ word_of answer }
 {
     match answer {
-        Answer::Given(reply) => reply_word(reply),
-        Answer::Refused(n) => KIND_REFUSED * 0x1000_0000 + n as u32 % 256,
+        Ok(reply) => reply_word(reply),
+        Err(refusal) => refused_word(u8::from(refusal)),
     }
 }
 
-// With which number a run over so many bytes of words, and so many for answers, is refused; 0 where it is not.
+// Whether a run over so many bytes of words, and so many for answers, can be.
 #[tactic(auto, unfolding(lists::specs::Bytes::count_refusal))]
-pub fn byte_refusal(words: usize, answers: usize) -> u32
-    ensures { result ≡ count_refusal words answers }
+pub fn check_bytes(words: usize, answers: usize) -> Result<(), ListError>
+    ensures { number_in result ≡ count_refusal words answers }
 {
     // "The lowest number wins": the count comes before the answer list.
     if words % WORD_BYTES != 0 {
-        return REFUSED_BYTE_COUNT as u32;
+        return Err(ListError::ByteCount);
     }
     if answers < words {
-        return REFUSED_SHORT_LIST as u32;
+        return Err(ListError::ShortList);
     }
-    0
+    Ok(())
 }

@@ -15,7 +15,7 @@ use lib.ListN.{length, take, get_or}
 use Rattle.line.specs.Choice.{bit_of}
 use Rattle.line.specs.Numbers.{drive_released}
 use Rattle.line.specs.Parity as parity
-use Rattle.line.specs.Slot.{Class, slot, host, class_of}
+use Rattle.line.specs.Slot.{Class, slot, stray, host, class_of}
 use Rattle.line.specs.declared.slot.Slot.TheVariants.{Level}
 use Rattle.place.specs.Drive.{sent_of}
 use Rattle.place.specs.declared.Field.TheVariants.{Length}
@@ -282,6 +282,7 @@ slot_alike = alike.replies (bit_at first_before) (bit_at second_before) computed
 -- and what is driven in it in the second list is the 0 that is computed for the first
 is_host : Class → Bool
 is_host (slot c) = false
+is_host stray = false
 is_host host = true
 
 pub low_alike : driven drive_released (take (bit_at second_before) (answers unit begin second)) ≡ 0

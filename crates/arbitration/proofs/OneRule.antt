@@ -22,7 +22,7 @@ use Rattle.line.specs.Places.{first_place}
 use Rattle.contest.proofs.Winner.{length_losses}
 use Rattle.rules.specs.State.{State, reset}
 use Rattle.rules.specs.Step.{answer_of, next_drive, step_of}
-use Rattle.rules.specs.declared.answer.Answer.TheVariants.{Given}
+use Rattle.std.specs.Prelude.{Ok}
 use Rattle.rules.specs.declared.answer.Reply.TheVariants.{Taken}
 use Rattle.rules.proofs.Calm.{pick_no, pick_yes}
 use Rattle.arbitration.specs.Group.{Contending, OneRule, after, contender_of, contenders, fed, leading, leads}
@@ -43,19 +43,19 @@ levels_next (suc k) ss = levels_next k (fed (settles ss) ss)
 
 level_taken : (ss : List State)
     → map (λ (s : State). answer_of s (settles ss)) ss
-    ≡ map (λ (s : State). Given (Taken (next_drive s))) (fed (settles ss) ss)
+    ≡ map (λ (s : State). Ok (Taken (next_drive s))) (fed (settles ss) ss)
 level_taken ss =
     map_each {P = λ s. settles ss ≤ next_drive s} _ _ (λ s under. answered s (settles ss) (settles_le ss) under) ss
     (under_each (settles ss) ss (omega arith))
-    ∙ sym (map-map (λ (s : State). Given (Taken (next_drive s))) (λ (s : State). step_of s (settles ss)) ss)
+    ∙ sym (map-map (λ (s : State). Ok (Taken (next_drive s))) (λ (s : State). step_of s (settles ss)) ss)
 
 all_taken : (units : List State) (k : ℕ)
     → map (λ (s : State). answer_of s (settles (after k units))) (after k units)
-    ≡ map (λ (s : State). Given (Taken (next_drive s))) (after (suc k) units)
+    ≡ map (λ (s : State). Ok (Taken (next_drive s))) (after (suc k) units)
 unfolding after
 all_taken units k =
     level_taken (levels k (fed drive_start units))
-    ∙ ap (map (λ (s : State). Given (Taken (next_drive s)))) (sym (levels_next k (fed drive_start units)))
+    ∙ ap (map (λ (s : State). Ok (Taken (next_drive s)))) (sym (levels_next k (fed drive_start units)))
 
 -- ---- after the start slot
 

@@ -35,7 +35,7 @@ use Rattle.rules.specs.Set.{core·idle}
 use Rattle.rules.specs.Slots.{core_drive, drive_at, on_event, on_level, on_lost}
 use Rattle.rules.specs.State.{State, is_empty, seen_of, view_of}
 use Rattle.rules.specs.Step.{answer_of, clashes, next_drive, said_as, slot_on, slot_said, step_as, step_of}
-use Rattle.rules.specs.declared.answer.Answer.TheVariants.{Given}
+use Rattle.std.specs.Prelude.{Ok}
 use Rattle.rules.specs.declared.answer.Reply.TheVariants.{Taken}
 use Rattle.rules.specs.declared.state.Acted.{Acted}
 use Rattle.rules.specs.declared.state.Core.{Core}
@@ -198,7 +198,7 @@ module _ (s : State) (w : ℕ) (low : w ≤ 1) (under : w ≤ next_drive s) wher
       ap (λ (k : Class). (step_as k s w).core) (word_level w low)
       ∙ ap (λ (t : State). t.core) (pick_no (clashes s (eqb w 1)) s _ (no_clash s w low under))
 
-  pub answered : answer_of s w ≡ Given (Taken (next_drive (step_of s w)))
+  pub answered : answer_of s w ≡ Ok (Taken (next_drive (step_of s w)))
   unfolding answer_of slot_said
   answered =
       ap (λ (k : Class). said_as k s (step_of s w) w) (word_level w low)
@@ -332,7 +332,7 @@ pub record Steps (n w : ℕ) (s : State) : Type 0 where
   pub lead : leads (step_of s w) ≡ (leads s && not (loses n w (number s)))
   pub same : contender_of (step_of s w) ≡ contender_of s
   pub stands : Stands n (step_of s w)
-  pub said : answer_of s w ≡ Given (Taken (next_drive (step_of s w)))
+  pub said : answer_of s w ≡ Ok (Taken (next_drive (step_of s w)))
 
 module _ (n : ℕ) (s : State) (h : n ≤ 12) (t : Stands (suc n) s) where
   pub drive_number : next_drive s ≡ pick (leads s) (parity.level_of n (number s)) 1

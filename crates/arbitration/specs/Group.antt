@@ -9,7 +9,7 @@ use Rattle.contenders.specs.Contest.{Wins, first_out, first_twin, losses_of, nob
 use Rattle.contenders.specs.declared.Contender.{Contender}
 use Rattle.rules.specs.State.{State}
 use Rattle.rules.specs.Step.{answer_of, next_drive, step_of}
-use Rattle.rules.specs.declared.answer.Answer.TheVariants.{Given}
+use Rattle.std.specs.Prelude.{Ok}
 use Rattle.rules.specs.declared.answer.Reply.TheVariants.{Taken}
 
 -- ---- the line
@@ -86,4 +86,4 @@ pub record OneRule (masters others : List State) : Type 0 where
   -- every unit takes every level: number 5 cannot come. The answer says what it drives next
   pub taken : (k : ℕ)
       → map (λ (s : State). answer_of s (settles (after k (masters ++ others)))) (after k (masters ++ others))
-      ≡ map (λ (s : State). Given (Taken (next_drive s))) (after (suc k) (masters ++ others))
+      ≡ map (λ (s : State). Ok (Taken (next_drive s))) (after (suc k) (masters ++ others))

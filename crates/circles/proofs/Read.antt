@@ -8,9 +8,11 @@ use lib.Dec.{eqb}
 use lib.ListN.{drop, length}
 use Rattle.line.specs.Choice.{pick}
 use Rattle.line.specs.Numbers.{ctr_reset, kind_read, kind_write, rbf_bytes, reg_ctr, reg_rbf, reg_tbf, tbf_bytes}
-use Rattle.line.specs.Slot.{Class, slot, host, class_of, kind_of}
+use Rattle.line.specs.Slot.{Class, slot, stray, host, class_of, kind_of}
 use Rattle.line.specs.declared.slot.Slot.{Slot}
-use Rattle.line.specs.declared.slot.Slot.TheVariants.{Level, Start, Idle, Stray}
+use Rattle.line.specs.declared.slot.Slot.TheVariants.{Level, Start, Idle}
+use Rattle.rules.proofs.Looked.{unless_ind}
+use Rattle.rules.specs.declared.answer.Refusal.{Refusal}
 use Rattle.rules.specs.Registers.{Told, wrote, restarted, gave, denied, read_refusal, read_told, register_of, told_of}
 use Rattle.rules.specs.Registers.{value_of, write_done, write_refusal, write_told}
 use Rattle.rules.specs.State.{State, is_empty, push_of, rbf_after, tbf_after}
@@ -73,7 +75,6 @@ module _ (b : Buffers) (s : State) (h : Read b s) where
   slot_read (Level bit) = level_read (clashes s bit) bit
   slot_read Start = acted_read _
   slot_read Idle = acted_read _
-  slot_read Stray = h.lists
 
   -- ---- host words
 
@@ -111,9 +112,9 @@ module _ (b : Buffers) (s : State) (h : Read b s) where
     unfolding Fits
     gave_fits value e = rw e (record { tbf = h.lists.tbf; rbf = h.lists.rbf })
 
-    denied_fits : (n : ℕ) → Fits (denied n)
+    denied_fits : (e : Refusal) → Fits (denied e)
     unfolding Fits
-    denied_fits n = h.lists
+    denied_fits e = h.lists
 
     done_fits : Fits (write_done s.core.regs s.tbf register v)
     unfolding write_done
@@ -123,13 +124,13 @@ module _ (b : Buffers) (s : State) (h : Read b s) where
 
     write_fits : Fits (write_told s.core.regs s.tbf register v)
     unfolding write_told
-    write_fits = pick_ind Fits (eqb (write_refusal _ _ register v) 0) _ _ (λ e. done_fits) (λ e. denied_fits _)
+    write_fits = unless_ind Fits (write_refusal s.core.regs (length s.tbf) register v) _ done_fits denied_fits
 
     read_fits : Fits (read_told s.core.regs s.tbf s.rbf register)
     unfolding read_told
     read_fits =
-        pick_ind Fits (eqb (read_refusal register (is_empty s.rbf)) 0) _ _
-        (λ e. pick_ind Fits (eqb register reg_rbf) _ _ (drawn_fits _) (gave_fits _)) (λ e. denied_fits _)
+        unless_ind Fits (read_refusal register (is_empty s.rbf)) _
+        (pick_ind Fits (eqb register reg_rbf) _ _ (drawn_fits _) (gave_fits _)) denied_fits
 
   told_fits : (w : ℕ) → Fits (register_of w) (value_of w) (told_of s.core.regs s.tbf s.rbf w)
   unfolding told_of
@@ -154,4 +155,5 @@ word_read s w b sent stored lists = by (class_of w)
 
     by : (class : Class) → ReadAs (after_calls (calls_as class s w) b) (step_as class s w)
     by (slot c) = slot_read b s h c
+    by stray = lists
     by host = told_fits b s h w

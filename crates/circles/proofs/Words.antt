@@ -3,9 +3,9 @@ use Prim.Native.Nat.{ℕ}
 use mathlib.Core.Path.{refl}
 use lib.Dec.{eqb}
 use Rattle.line.specs.Numbers.{rbf_bytes, reg_rbf, reg_tbf, tbf_bytes}
-use Rattle.line.specs.Slot.{Class, slot, host, class_of}
+use Rattle.line.specs.Slot.{Class, slot, stray, host, class_of}
 use Rattle.line.specs.declared.slot.Slot.{Slot}
-use Rattle.line.specs.declared.slot.Slot.TheVariants.{Level, Start, Idle, Stray}
+use Rattle.line.specs.declared.slot.Slot.TheVariants.{Level, Start, Idle}
 use Rattle.rules.specs.Registers.{Told, wrote, restarted, gave, denied, register_of, told_of, value_of}
 use Rattle.rules.specs.State.{State}
 use Rattle.rules.specs.Step.{clashes}
@@ -56,7 +56,6 @@ slot_still s (Level bit) =
     pick_ind Still (clashes s bit) no_calls (slot_taken s (Level bit)) (λ e. still) (λ e. acting_still _)
 slot_still s Start = acting_still _
 slot_still s Idle = acting_still _
-slot_still s Stray = still
 
 told_still : (t : Told) (register v : ℕ) → Still (told_calls t register v)
 told_still (wrote r tbf) register v =
@@ -67,7 +66,7 @@ told_still restarted register v =
 told_still (gave rbf value) register v =
     pick_ind Still (eqb register reg_rbf) drawn no_calls
     (λ e. record { tbf = same_unmoved tbf_bytes; rbf = λ b. call_unmoved rbf_bytes b take }) (λ e. still)
-told_still (denied n) register v = still
+told_still (denied e) register v = still
 
 word_still : (s : State) (w : ℕ) → Still (word_calls s w)
 unfolding word_calls
@@ -75,6 +74,7 @@ word_still s w = by (class_of w)
   where
     by : (class : Class) → Still (calls_as class s w)
     by (slot c) = slot_still s c
+    by stray = still
     by host = told_still (told_of s.core.regs s.tbf s.rbf w) (register_of w) (value_of w)
 
 -- any word, in every state, on any arrays with any spans

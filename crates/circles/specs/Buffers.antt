@@ -1,10 +1,10 @@
 -- What a word does to TBF and RBF, by the calls that it makes on each.
-use Rattle.std.specs.Prelude.{ℕ, List, [], ◌∷◌, ◌≡◌, eqb}
+use Rattle.std.specs.Prelude.{ℕ, List, [], ◌∷◌, ◌≡◌, eqb, Some}
 use Rattle.line.specs.Choice.{pick}
 use Rattle.line.specs.Numbers.{rbf_bytes, reg_rbf, reg_tbf, tbf_bytes}
-use Rattle.line.specs.Slot.{Class, slot, host, class_of}
+use Rattle.line.specs.Slot.{Class, slot, stray, host, class_of}
 use Rattle.line.specs.declared.slot.Slot.{Slot}
-use Rattle.line.specs.declared.slot.Slot.TheVariants.{Level, Start, Idle, Stray}
+use Rattle.line.specs.declared.slot.Slot.TheVariants.{Level, Start, Idle}
 use Rattle.rules.specs.Registers.{Told, wrote, restarted, gave, denied, register_of, told_of, value_of}
 use Rattle.rules.specs.Slots.{on_slot}
 use Rattle.rules.specs.State.{State, seen_of}
@@ -70,24 +70,24 @@ abbrev pub acting : Act → Calls
 acting act = record { tbf = sent_by act; rbf = stored_by act }
 
 abbrev pub slot_taken : State → Slot → Calls
-slot_taken s c = acting (on_slot s.core c (seen_of s.tbf s.rbf)).act
+slot_taken s c = acting (on_slot s.core (Some c) (seen_of s.tbf s.rbf)).act
 
 -- a refused slot does nothing
 unfoldable pub slot_calls : State → Slot → Calls
 slot_calls s (Level bit) = pick (clashes s bit) no_calls (slot_taken s (Level bit))
 slot_calls s Start = slot_taken s Start
 slot_calls s Idle = slot_taken s Idle
-slot_calls s Stray = no_calls
 
 -- host words: what one did, the register that it names, and the value
 abbrev pub told_calls : Told → ℕ → ℕ → Calls
 told_calls (wrote r tbf) register v = pick (eqb register reg_tbf) (filled v) no_calls
 told_calls restarted register v = emptied
 told_calls (gave rbf value) register v = pick (eqb register reg_rbf) drawn no_calls
-told_calls (denied n) register v = no_calls
+told_calls (denied refusal) register v = no_calls
 
 abbrev pub calls_as : Class → State → ℕ → Calls
 calls_as (slot c) s w = slot_calls s c
+calls_as stray s w = no_calls
 calls_as host s w = told_calls (told_of s.core.regs s.tbf s.rbf w) (register_of w) (value_of w)
 
 -- any word, in the state before it

@@ -14,8 +14,7 @@ fn sent(width: u8, value: u16, n: u8) -> bool
     ensures { result ≡ sent_of width value n }
 {
     if n < width {
-        let left = width - 1 - n;
-        return (value >> left) % 2 == 1;
+        return (value >> (width - 1 - n)) % 2 == 1;
     }
     if n == width {
         return line::parity::parity(value as u32) == 1;
@@ -55,13 +54,7 @@ fn drive_in(frame: Frame, field: Field, n: u8, view: View) -> bool
             }
             answer(frame, 4, n)
         }
-        Field::Length => {
-            if frame.sends {
-                return sent(8, frame.byte as u16, n);
-            }
-            answer(frame, 8, n)
-        }
-        Field::Data => {
+        Field::Length | Field::Data => {
             if frame.sends {
                 return sent(8, frame.byte as u16, n);
             }

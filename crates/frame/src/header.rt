@@ -52,8 +52,7 @@ pub(crate) fn at_broadcast(mut frame: Frame, bit: bool) -> Moved
 fn with_master(mut frame: Frame, held: bool) -> Frame
     ensures { result ≡ master_of frame held }
 {
-    let address = frame.shift;
-    frame.master = address;
+    frame.master = frame.shift;
     frame.sound = held;
     to(frame, Field::Slave)
 }
@@ -113,8 +112,7 @@ pub(crate) fn after_ack(frame: Frame, acked: bool, field: Field, event: Event) -
 fn with_slave(mut frame: Frame, ack: bool) -> Frame
     ensures { result ≡ with_slave frame ack }
 {
-    let address = frame.shift;
-    frame.slave = address;
+    frame.slave = frame.shift;
     frame.ack = ack;
     frame
 }

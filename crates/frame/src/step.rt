@@ -33,10 +33,7 @@ fn contested(field: Field, n: u8) -> bool
     match field {
         Field::Broadcast => true,
         Field::Master => n < 12,
-        Field::Slave => false,
-        Field::Control => false,
-        Field::Length => false,
-        Field::Data => false,
+        Field::Slave | Field::Control | Field::Length | Field::Data => false,
     }
 }
 
@@ -46,12 +43,10 @@ fn own_bit(frame: Frame, field: Field, n: u8) -> bool
     ensures { result ≡ own_bit frame field n }
 {
     match field {
-        Field::Broadcast => true,
-        Field::Master => true,
+        Field::Broadcast | Field::Master => true,
         Field::Slave => n <= 12,
         Field::Control => n <= 4,
-        Field::Length => frame.sends & (n <= 8),
-        Field::Data => frame.sends & (n <= 8),
+        Field::Length | Field::Data => frame.sends & (n <= 8),
     }
 }
 
@@ -93,13 +88,9 @@ fn in_field(frame: Frame, field: Field, n: u8, bit: bool, view: View) -> Moved
             event: Event::Aborted,
         };
     }
-    let moved = at_field(led(frame, overruled), field, n, bit, view);
-    let next = moved.frame;
-    let event = moved.event;
-    Moved {
-        frame: next,
-        event: told(event, overruled),
-    }
+    let mut moved = at_field(led(frame, overruled), field, n, bit, view);
+    moved.event = told(moved.event, overruled);
+    moved
 }
 
 // One level of the frame under way; while the unit waits for a start, nothing.

@@ -76,8 +76,7 @@ fn data_judged(frame: Frame, n: u8, bit: bool) -> Moved
 fn counted(mut frame: Frame) -> Frame
     ensures { result ≡ counted_of frame }
 {
-    let made = frame.attempts % 128 + 1;
-    frame.attempts = made;
+    frame.attempts = frame.attempts % 128 + 1;
     frame
 }
 
@@ -86,8 +85,7 @@ fn counted(mut frame: Frame) -> Frame
 fn with_acked(mut frame: Frame) -> Frame
     ensures { result ≡ acked_of frame }
 {
-    let bytes = frame.acked % 512 + 1;
-    frame.acked = bytes;
+    frame.acked = frame.acked % 512 + 1;
     frame
 }
 

@@ -9,8 +9,8 @@ use native.Mathlib.Omega.{arith}
 use lib.Dec.{eqb}
 use lib.ListN.{take}
 use Rattle.line.specs.Choice.{pick, bit_of}
-use Rattle.line.specs.Slot.{Class, slot, host, class_of, slot_of}
-use Rattle.line.specs.declared.slot.Slot.TheVariants.{Level, Start, Idle, Stray}
+use Rattle.line.specs.Slot.{Class, slot, stray, host, class_of, slot_of}
+use Rattle.line.specs.declared.slot.Slot.TheVariants.{Level, Start, Idle}
 use Rattle.isolation.specs.Words.{levels, spells, from_master, framed, marks, spaced, marked, count, keeps, kept}
 use Rattle.isolation.specs.Runs.{Machine, Protected, Given, Compared}
 use Rattle.isolation.specs.Runs.{run, answers, shown, driven, latest}
@@ -43,7 +43,7 @@ abbrev hears : Class → Heard → Heard
 hears (slot (Level b)) s = record { level = true; called = s.called; late = s.called }
 hears (slot Start) s = s
 hears (slot Idle) s = s
-hears (slot Stray) s = s
+hears stray s = s
 hears host s = record { level = s.level; called = true; late = s.late }
 
 -- what it shows of that, what it answers, how long it is locked, and to whom; it waits at all times
@@ -123,6 +123,7 @@ state_leaks p =
 -- what a host word is answered, outside of the drive bits
 abbrev tells : Class → Heard → ℕ
 tells (slot c) s = 0x8000_0100
+tells stray s = 0x8000_0100
 tells host s = 0xA000_0100 + bit_of s.level
 
 odd : ℕ → Bool
@@ -140,7 +141,7 @@ abbrev starts : Class → Heard → ℕ
 starts (slot Start) s = 0x8000_0000 + bit_of s.level
 starts (slot (Level b)) s = 0x8000_0100
 starts (slot Idle) s = 0x8000_0100
-starts (slot Stray) s = 0x8000_0100
+starts stray s = 0x8000_0100
 starts host s = 0x9000_0100
 
 pub slot_leaks : Protected (leaky blind starts always to0) → ⊥
@@ -155,14 +156,14 @@ abbrev pulls : Class → Heard → ℕ
 pulls (slot (Level b)) s = 0x8000_0000
 pulls (slot Start) s = 0x8000_0100
 pulls (slot Idle) s = 0x8000_0100
-pulls (slot Stray) s = 0x8000_0100
+pulls stray s = 0x8000_0100
 pulls host s = 0x9000_0100
 
 abbrev pub is_start : Class → Bool
 is_start (slot (Level b)) = false
 is_start (slot Start) = true
 is_start (slot Idle) = false
-is_start (slot Stray) = false
+is_start stray = false
 is_start host = false
 
 pub drive_leaks : Protected (leaky blind pulls always to0) → ⊥
@@ -215,7 +216,7 @@ nears (slot (Level b)) s =
     }
 nears (slot Start) s = record { slots = 1; taken = s.taken }
 nears (slot Idle) s = record { slots = 0; taken = s.taken }
-nears (slot Stray) s = s
+nears stray s = s
 nears host s = s
 
 abbrev near : Machine

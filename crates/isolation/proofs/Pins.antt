@@ -9,19 +9,21 @@ use native.Mathlib.Omega.{arith}
 use borrow.Author.Tests.{eq-eqb, eqb-true, ne_eqb}
 use lib.ListN.{take, drop}
 use Rattle.line.specs.Choice.{bit_of}
+use Rattle.std.specs.Prelude.{Some, None}
+use Rattle.std.specs.declared.option.Option.{Option}
 use Rattle.line.specs.Numbers.{kind_refused}
-use Rattle.line.specs.Slot.{slot, host, class_of, kind_of, slot_of}
+use Rattle.line.specs.Slot.{slot, stray, host, class_in, class_of, kind_of, slot_of}
 use Rattle.line.specs.declared.slot.Slot.{Slot}
-use Rattle.line.specs.declared.slot.Slot.TheVariants.{Stray}
 use Rattle.isolation.specs.Words.{framed, from_master, keeps, kept, levels, marked, marks, spaced, spells}
 use Rattle.isolation.specs.Runs.{driven, latest, shown}
 
 -- ---- what is compared of an answer
 
 -- all of it; of a host word's all but the drive bits
-pub shown_slot : (c : Slot) (a b : ℕ) → shown (slot c) a ≡ shown (slot c) b → a ≡ b
+pub shown_slot : (c : Option Slot) (a b : ℕ) → shown (class_in c) a ≡ shown (class_in c) b → a ≡ b
 unfolding shown
-shown_slot c a b e = e
+shown_slot (Some c) a b e = e
+shown_slot None a b e = e
 
 pub shown_host : (a b : ℕ) → shown host a ≡ shown host b → (a / 0x400 ≡ b / 0x400) × (a % 0x100 ≡ b % 0x100)
 unfolding shown
@@ -116,7 +118,7 @@ module _ (h : ℕ) (ws : List ℕ) where
   unfolding marked marks kept keeps class_of slot_of
   idle_struck = refl
 
-  pub stray_struck : (w : ℕ) → class_of w ≡ slot Stray → kept h (w ∷ ws) ≡ kept h ws
+  pub stray_struck : (w : ℕ) → class_of w ≡ stray → kept h (w ∷ ws) ≡ kept h ws
   unfolding marked marks kept keeps
   stray_struck w e = rw e refl
 

@@ -8,8 +8,8 @@ use Prim.Native.Nat.{ℕ, suc, ◌+◌, ◌*◌}
 use lib.Dec.{eqb}
 use lib.ListN.{take}
 use Rattle.line.specs.Numbers.{drive_released}
-use Rattle.line.specs.Slot.{Class, slot, host, class_of, slot_of}
-use Rattle.line.specs.declared.slot.Slot.TheVariants.{Level, Start, Idle, Stray}
+use Rattle.line.specs.Slot.{Class, slot, stray, host, class_of, slot_of}
+use Rattle.line.specs.declared.slot.Slot.TheVariants.{Level, Start, Idle}
 use Rattle.isolation.specs.Words.{levels, spells, from_master, framed, marks, spaced, marked, count, keeps, kept}
 use Rattle.isolation.specs.Runs.{Machine, Places, Protected, Alike, Given, Compared}
 use Rattle.isolation.specs.Runs.{answers, driven, latest, shown}
@@ -22,7 +22,7 @@ abbrev next_as : Class → Bool → Bool
 next_as (slot (Level b)) free = free
 next_as (slot Start) free = false
 next_as (slot Idle) free = true
-next_as (slot Stray) free = free
+next_as stray free = free
 next_as host free = free
 
 -- an answer with a kind and what is driven
@@ -34,7 +34,7 @@ abbrev said_as : Class → Bool → ℕ
 said_as (slot (Level b)) free = driving free 8
 said_as (slot Start) free = driving false 8
 said_as (slot Idle) free = driving true 8
-said_as (slot Stray) free = 0xF000_0002
+said_as stray free = 0xF000_0002
 said_as host free = driving free 9
 
 abbrev pub smallest : Machine
@@ -83,7 +83,7 @@ met h =
       bound_waiting = λ s e o. o;
       bound_word = λ s w o l. o;
       bound_names = λ s o l. o;
-      on_stray = λ s w r. (next s w (slot Stray) r, λ d. says s w d (slot Stray) r);
+      on_stray = λ s w r. (next s w stray r, λ d. says s w d stray r);
       on-idle = λ s w r. (next s w (slot Idle) r, λ q d. says s w d (slot Idle) r);
       wait_level = λ s w b r e q. (next s w (slot (Level b)) r ∙ e, refl, free_says s w (slot (Level b)) r e);
       wait_idle = λ s w r e. refl;

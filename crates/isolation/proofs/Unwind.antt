@@ -11,8 +11,8 @@ use lib.ListN.{take, drop, get_or}
 use lib.Seq.{get_or-drop}
 use Rattle.line.specs.Choice.{pick}
 use Rattle.line.specs.Numbers.{drive_released}
-use Rattle.line.specs.Slot.{Class, slot, host, class_of}
-use Rattle.line.specs.declared.slot.Slot.TheVariants.{Level, Start, Idle, Stray}
+use Rattle.line.specs.Slot.{Class, slot, stray, host, class_of}
+use Rattle.line.specs.declared.slot.Slot.TheVariants.{Level, Start, Idle}
 use Rattle.isolation.specs.Words.{levels, framed, marks, spaced, marked, count, keeps, kept}
 use Rattle.isolation.specs.Runs.{Machine, shown, latest, driven, Behind, Places}
 use Rattle.isolation.specs.Runs.{run, answers, Compared, Given, Protected}
@@ -152,7 +152,7 @@ module _ (M : Machine) (h : ℕ) (U : Unwinding M h) where
   -- ---- one word
 
   -- a stray word leaves a run where it was
-  stray_stays : (p : Point M) (w : ℕ) → class_of w ≡ slot Stray → after M p w ≡ p
+  stray_stays : (p : Point M) (w : ℕ) → class_of w ≡ stray → after M p w ≡ p
   stray_stays p w r =
       let y = U.on_stray p.state w r in
       λ i. record { state = y.0 i; drive = y.1 p.drive i }
@@ -225,7 +225,7 @@ module _ (M : Machine) (h : ℕ) (U : Unwinding M h) where
     between_turn (slot Idle) r x g =
         let k = U.wait_idle p.state w r x.rests.waits ∙ x.same in
         struck between g record { rests = idle_rests p w r n'; kept_rests = x.kept_rests; same = k }
-    between_turn (slot Stray) r x g = struck between g (rw (stray_stays p w r) x)
+    between_turn stray r x g = struck between g (rw (stray_stays p w r) x)
     between_turn host r x g =
         let y = host_kept r x.kept_rests x.same in
         taken between g record { rests = host_rests p w r n' x.rests; kept_rests = y.0; same = y.1 }
@@ -242,7 +242,7 @@ module _ (M : Machine) (h : ℕ) (U : Unwinding M h) where
     other_turn (slot Idle) r x g l o =
         let k = U.calm_idle p.state w r x.calm l o n ∙ x.same in
         struck between g record { rests = idle_rests p w r n'; kept_rests = x.kept_rests; same = k }
-    other_turn (slot Stray) r x g l o = struck other g (rw (stray_stays p w r) x)
+    other_turn stray r x g l o = struck other g (rw (stray_stays p w r) x)
     other_turn host r x g l o =
         let y = host_kept r x.kept_rests x.same in
         let k = U.calm_host p.state w (levels cs) r x.calm in
@@ -258,7 +258,7 @@ module _ (M : Machine) (h : ℕ) (U : Unwinding M h) where
         let y = idle_rests p w r n' in
         taken between g (subst (λ (z : Point M). Between (after M p w) (after M z w)) x
         record { rests = y; kept_rests = y; same = refl })
-    mine_turn (slot Stray) r x g = taken mine g (ap (λ (z : Point M). after M z w) x)
+    mine_turn stray r x g = taken mine g (ap (λ (z : Point M). after M z w) x)
     mine_turn host r x g = taken mine g (ap (λ (z : Point M). after M z w) x)
 
     -- a word, wherever the list stands
@@ -322,12 +322,12 @@ module _ (M : Machine) (h : ℕ) (U : Unwinding M h) where
       let y = U.start_same p.state q.state w r x.rests.waits x.kept_rests.waits x.same n in
       record { reply = y.1; drives = λ _. x.rests.released ∙ sym x.kept_rests.released }
   told between bs (slot Idle) cs w p q r k g x n = absurd (false≢true k)
-  told between bs (slot Stray) cs w p q r k g x n = absurd (false≢true k)
+  told between bs stray cs w p q r k g x n = absurd (false≢true k)
   told between bs host cs w p q r k g x n = host_told w p q r x.same
   told other bs (slot (Level b)) cs w p q r k g x n = absurd (false≢true k)
   told other bs (slot Start) cs w p q r k g x n = absurd (false≢true g)
   told other bs (slot Idle) cs w p q r k g x n = absurd (false≢true k)
-  told other bs (slot Stray) cs w p q r k g x n = absurd (false≢true k)
+  told other bs stray cs w p q r k g x n = absurd (false≢true k)
   told other bs host cs w p q r k g x n = host_told w p q r x.same
   told mine bs c cs w p q r k g x n =
       let y = ap (λ (z : Point M). shown c (M.answer z.state w)) x in

@@ -5,8 +5,8 @@ use mathlib.Core.Bool.{Bool, true, false}
 use mathlib.Core.Path.{◌≡◌}
 use mathlib.Core.List.{List, [], ◌∷◌}
 use Prim.Native.Nat.{ℕ}
-use Rattle.line.specs.Slot.{slot, host, class_of}
-use Rattle.line.specs.declared.slot.Slot.TheVariants.{Level, Start, Idle, Stray}
+use Rattle.line.specs.Slot.{slot, stray, host, class_of}
+use Rattle.line.specs.declared.slot.Slot.TheVariants.{Level, Start, Idle}
 use Rattle.isolation.specs.Words.{from_master}
 use Rattle.isolation.specs.Runs.{Machine, shown, latest}
 
@@ -22,7 +22,7 @@ pub record Unwinding (M : Machine) (h : ℕ) : Type 1 where
   pub bound_word : (s : M.State) (w : ℕ) → bound s → M.locked s ≡ true → bound (M.step s w)
   pub bound_names : (s : M.State) → bound s → M.locked s ≡ true → M.holder s ≡ h
   -- a word with a stray bit is refused, and changes nothing
-  pub on_stray : (s : M.State) (w : ℕ) → class_of w ≡ slot Stray
+  pub on_stray : (s : M.State) (w : ℕ) → class_of w ≡ stray
       → (M.step s w ≡ s) × ((d : ℕ) → latest d (M.answer s w) ≡ d)
   -- idle ends any frame, and releases the line
   pub on-idle : (s : M.State) (w : ℕ) → class_of w ≡ slot Idle

@@ -3,7 +3,7 @@
 use Rattle.std.specs.Prelude.{Bool, true, false, ◌≡◌, List, [], ◌∷◌, map, ℕ, suc, ◌+◌, ◌*◌, ◌/◌, ◌%◌, ◌≤◌, ◌<◌, eqb, take, get_or}
 use Rattle.line.specs.Choice.{pick}
 use Rattle.line.specs.Numbers.{drive_released, kind_refused}
-use Rattle.line.specs.Slot.{Class, slot, host, class_of, kind_of}
+use Rattle.line.specs.Slot.{Class, slot, stray, host, class_of, kind_of}
 use Rattle.isolation.specs.Words.{spaced, count, keeps, kept}
 
 -- a machine that takes words: the state after a word and its answer, and what the claim speaks of
@@ -26,6 +26,7 @@ pub record Machine : Type 1 where
 -- an answer as it is compared: "a host word's apart from its drive bits"
 unfoldable pub shown : Class → ℕ → ℕ
 shown (slot c) a = a
+shown stray a = a
 shown host a = a / 0x400 * 0x400 + a % 0x100
 
 -- "The slot driven is bits 9-8 of the latest answer before that slot's word that is no refusal": after one answer

@@ -2,8 +2,8 @@
 -- (document 01, "Over what is demand 3 stated?").
 use Rattle.std.specs.Prelude.{Bool, true, false, List, [], ◌∷◌, map, ℕ, zero, suc, ◌+◌, ◌*◌, eqb, drop}
 use Rattle.line.specs.Choice.{bit_of}
-use Rattle.line.specs.Slot.{Class, slot, host, class_of}
-use Rattle.line.specs.declared.slot.Slot.TheVariants.{Level, Start, Idle, Stray}
+use Rattle.line.specs.Slot.{Class, slot, stray, host, class_of}
+use Rattle.line.specs.declared.slot.Slot.TheVariants.{Level, Start, Idle}
 
 -- "A frame of a list goes from a start slot through the next idle slot, or to the list's end; a word of kind 0 with a
 -- stray bit may lie in it but is no slot": the levels of a frame, from the words that follow its start slot
@@ -12,7 +12,7 @@ levels [] = []
 levels (slot (Level b) ∷ ws) = b ∷ levels ws
 levels (slot Start ∷ ws) = levels ws
 levels (slot Idle ∷ ws) = []
-levels (slot Stray ∷ ws) = levels ws
+levels (stray ∷ ws) = levels ws
 levels (host ∷ ws) = levels ws
 
 -- n levels more are there and, behind the bits x, highest first, they spell h
@@ -37,7 +37,7 @@ marks h mine [] = []
 marks h mine (slot (Level b) ∷ ws) = mine ∷ marks h mine ws
 marks h mine (slot Start ∷ ws) = framed h ws ∷ marks h (framed h ws) ws
 marks h mine (slot Idle ∷ ws) = mine ∷ marks h false ws
-marks h mine (slot Stray ∷ ws) = mine ∷ marks h mine ws
+marks h mine (stray ∷ ws) = mine ∷ marks h mine ws
 marks h mine (host ∷ ws) = true ∷ marks h mine ws
 
 -- "with an idle slot between any two starts". `busy` says that a start slot lies behind, and no idle slot since
@@ -47,7 +47,7 @@ spaced busy (slot (Level b) ∷ ws) = spaced busy ws
 spaced true (slot Start ∷ ws) = false
 spaced false (slot Start ∷ ws) = spaced true ws
 spaced busy (slot Idle ∷ ws) = spaced false ws
-spaced busy (slot Stray ∷ ws) = spaced busy ws
+spaced busy (stray ∷ ws) = spaced busy ws
 spaced busy (host ∷ ws) = spaced busy ws
 
 -- the words that are marked, and how many marks there are

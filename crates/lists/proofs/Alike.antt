@@ -8,8 +8,8 @@ use native.Mathlib.Omega.{arith}
 use lib.ListN.{length, take, drop, get_or, length-map}
 use lib.Seq.{get_or-take, take-take}
 use Rattle.line.specs.Numbers.{drive_released}
-use Rattle.line.specs.Slot.{Class, slot, host, class_of}
-use Rattle.line.specs.declared.slot.Slot.TheVariants.{Level, Start, Idle, Stray}
+use Rattle.line.specs.Slot.{Class, slot, stray, host, class_of}
+use Rattle.line.specs.declared.slot.Slot.TheVariants.{Level, Start, Idle}
 use Rattle.isolation.specs.Words.{framed, keeps, marks}
 use Rattle.isolation.specs.Runs.{Behind, Compared, Given, Places, Protected, answers, driven, run, shown}
 use Rattle.rules.specs.Machine.{observed, unit}
@@ -26,7 +26,7 @@ marks_length h mine [] = refl
 marks_length h mine (slot (Level b) ∷ cs) = ap suc (marks_length h mine cs)
 marks_length h mine (slot Start ∷ cs) = ap suc (marks_length h (framed h cs) cs)
 marks_length h mine (slot Idle ∷ cs) = ap suc (marks_length h false cs)
-marks_length h mine (slot Stray ∷ cs) = ap suc (marks_length h mine cs)
+marks_length h mine (stray ∷ cs) = ap suc (marks_length h mine cs)
 marks_length h mine (host ∷ cs) = ap suc (marks_length h mine cs)
 
 set_within : (ms : List Bool) (i : ℕ) → get_or ms i false ≡ true → i < length ms

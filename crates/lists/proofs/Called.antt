@@ -12,8 +12,8 @@ use Rattle.isolation.specs.Runs.{run, answers}
 use Rattle.rules.specs.Machine.{unit}
 use Rattle.rules.specs.State.{State, reset}
 use Rattle.isolation.proofs.Appended.{answers_append}
-use Rattle.rules.specs.declared.answer.Answer.{Answer}
-use Rattle.rules.specs.declared.answer.Answer.TheVariants.{Given, Refused}
+use Rattle.rules.specs.Answers.{Answer}
+use Rattle.std.specs.Prelude.{Ok, Err}
 use Rattle.rules.specs.declared.answer.Reply.TheVariants.{Taken, Written, Read}
 use Rattle.rules.specs.Step.{answer_of, step_of, word_of}
 use Rattle.lists.specs.Run.{Called, answers_after, unit_after}
@@ -52,10 +52,10 @@ taken_whole words out e =
 -- an answer has 32 bits, and its four bytes spell it again
 answer_fits : (a : Answer) → word_of a < 0x1_0000_0000
 unfolding word_of
-answer_fits (Given (Taken d)) = omega arith
-answer_fits (Given (Written d)) = omega arith
-answer_fits (Given (Read v d)) = omega arith
-answer_fits (Refused n) = omega arith
+answer_fits (Ok (Taken d)) = omega arith
+answer_fits (Ok (Written d)) = omega arith
+answer_fits (Ok (Read v d)) = omega arith
+answer_fits (Err n) = omega arith
 
 spelled_again : (w : ℕ) → w < 0x1_0000_0000
     → word_from (w % 256) (w / 0x100 % 256) (w / 0x1_0000 % 256) (w / 0x100_0000 % 256) ≡ w

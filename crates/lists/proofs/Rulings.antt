@@ -11,13 +11,14 @@ use lib.ListN.{length, take, get_or, length-append, length-take, get_or-append}
 use Rattle.line.specs.Numbers.{kind_refused}
 use Rattle.line.specs.Slot.{kind_of}
 use Rattle.isolation.specs.Runs.{run, answers}
-use Rattle.rules.specs.declared.answer.Answer.{Answer}
-use Rattle.rules.specs.declared.answer.Answer.TheVariants.{Given, Refused}
+use Rattle.std.specs.Prelude.{Ok, Err}
+use Rattle.rules.specs.Answers.{Answer, number_of}
+use Rattle.rules.specs.declared.answer.Refusal.{Refusal}
 use Rattle.rules.specs.declared.answer.Reply.TheVariants.{Taken, Written, Read}
 use Rattle.rules.specs.Machine.{unit}
 use Rattle.rules.specs.Refusals.{Ruling, accepted, refused, apart, lowest, rows, ruling_of}
 use Rattle.rules.specs.State.{State}
-use Rattle.rules.specs.Step.{answer_of, step_of, word_of}
+use Rattle.rules.specs.Step.{answer_of, refused_word, step_of, word_of}
 use Rattle.rules.proofs.Ruled.{ruled}
 use Rattle.lists.specs.Bytes.{CalledBytes, bytes_of, count_refusal, words_of}
 use Rattle.lists.specs.Rulings.{AllRuled}
@@ -88,16 +89,23 @@ abbrev number_in : Ruling → ℕ
 number_in accepted = 0
 number_in (refused n) = n
 
-refused_is : (a : Answer) (n : ℕ) → ruling_of a ≡ refused n → a ≡ Refused n
-refused_is (Given reply) n e = absurd (subst T (ap is_refused (sym e)) tt)
-refused_is (Refused m) n e = ap Refused (ap number_in e)
+-- an answer that the tables refuse by a number: its word has that number, and whatever holds of refused words holds
+record IsRefused (a : Answer) (n : ℕ) : Type 0 where
+  refusal : Refusal
+  is : a ≡ Err refusal
+  word : word_of a ≡ refused_word n
+
+refused_is : (a : Answer) (n : ℕ) → ruling_of a ≡ refused n → IsRefused a n
+unfolding word_of
+refused_is (Ok reply) n e = absurd (subst T (ap is_refused (sym e)) tt)
+refused_is (Err refusal) n e = record { refusal = refusal; is = refl; word = ap refused_word (ap number_in e) }
 
 accepted_is : (a : Answer) → ruling_of a ≡ accepted → kind_of (word_of a) < kind_refused
 unfolding word_of
-accepted_is (Given (Taken d)) e = omega arith
-accepted_is (Given (Written d)) e = omega arith
-accepted_is (Given (Read v d)) e = omega arith
-accepted_is (Refused n) e = absurd (subst T (ap is_refused e) tt)
+accepted_is (Ok (Taken d)) e = omega arith
+accepted_is (Ok (Written d)) e = omega arith
+accepted_is (Ok (Read v d)) e = omega arith
+accepted_is (Err n) e = absurd (subst T (ap is_refused e) tt)
 
 module _ {s : State} {words after : List ℕ} (all : AllRuled s words after) (i : ℕ) (h : i < length words) where
   -- what the tables say of the word i
@@ -105,11 +113,11 @@ module _ {s : State} {words after : List ℕ} (all : AllRuled s words after) (i 
   said = lowest (rows (run unit s (take i words)) (apart (get_or words i 0)))
 
   pub refused_there : (n : ℕ) → said ≡ refused n
-      → (get_or after i 0 ≡ word_of (Refused n)) × (run unit s (take (suc i) words) ≡ run unit s (take i words))
+      → (get_or after i 0 ≡ refused_word n) × (run unit s (take (suc i) words) ≡ run unit s (take i words))
   refused_there n e =
       let at = all.each i h in
       let is = refused_is at.answer n (at.as_tabled.ruling ∙ e) in
-      (at.stands ∙ ap word_of is, at.as_tabled.unchanged n is)
+      (at.stands ∙ is.word, at.as_tabled.unchanged is.refusal is.is)
 
   pub accepted_there : said ≡ accepted → kind_of (get_or after i 0) < kind_refused
   accepted_there e =

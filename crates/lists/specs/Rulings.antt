@@ -3,7 +3,7 @@
 -- no shorter, ends with one answer word per word".
 use Rattle.std.specs.Prelude.{List, ◌≡◌, ℕ, suc, ◌≤◌, ◌<◌, length, take, get_or}
 use Rattle.isolation.specs.Runs.{run}
-use Rattle.rules.specs.declared.answer.Answer.{Answer}
+use Rattle.rules.specs.Answers.{Answer}
 use Rattle.rules.specs.Machine.{unit}
 use Rattle.rules.specs.Refusals.{Ruled}
 use Rattle.rules.specs.State.{State}

@@ -24,9 +24,10 @@ fn length(byte: u8) -> u16
     ensures { result ≡ length_of byte }
 {
     if byte == 0 {
-        return LENGTH_OF_ZERO;
+        LENGTH_OF_ZERO
+    } else {
+        u16::from(byte)
     }
-    byte as u16
 }
 
 // A bit taken in behind those before it, "highest bit first"; the register keeps twelve.
@@ -83,8 +84,7 @@ pub fn next(mut frame: Frame, field: Field, n: u8) -> Frame
 pub fn shifted(mut frame: Frame, field: Field, n: u8, bit: bool) -> Frame
     ensures { result ≡ shifted_of frame field n bit }
 {
-    let bits = shift_in(frame.shift, bit);
-    frame.shift = bits;
+    frame.shift = shift_in(frame.shift, bit);
     next(frame, field, n)
 }
 
@@ -93,8 +93,7 @@ pub fn shifted(mut frame: Frame, field: Field, n: u8, bit: bool) -> Frame
 pub fn with_length(mut frame: Frame, byte: u8) -> Frame
     ensures { result ≡ with_length frame byte }
 {
-    let bytes = length(byte);
     frame.byte = byte;
-    frame.length = bytes;
+    frame.length = length(byte);
     frame
 }

@@ -37,20 +37,18 @@ pub fn takes_part(regs: Registers, clear: bool) -> bool
 }
 
 // What the unit drives in the next slot: "0, 1 (released) or 2 (start)". "With MARQ set and idle as the latest slot,
-// the unit drives start".
+// the unit drives start". A number, as the answer has it.
 #[tactic(auto, unfolding(rules::specs::Slots::core_drive))]
 pub fn core_drive(core: Core, clear: bool) -> u8
     ensures { result ≡ core_drive core clear }
 {
-    let frame = core.frame;
-    let regs = core.regs;
-    match frame.place {
+    match core.frame.place {
         Place::Waiting => {
-            if core.idle & takes_part(regs, clear) {
+            if core.idle & takes_part(core.regs, clear) {
                 return DRIVE_START;
             }
             DRIVE_RELEASED
         }
-        Place::In(_, _) => drive(frame, view(regs, clear)) as u8,
+        Place::In(_, _) => drive(core.frame, view(core.regs, clear)) as u8,
     }
 }

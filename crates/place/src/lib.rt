@@ -15,7 +15,8 @@ pub enum Field {
 }
 
 // "A unit's place in a frame is a field with its count, or waiting for a start." The count goes over the field's bits,
-// then P and, from the slave address on, A.
+// then P and, from the slave address on, A. It is no Option of a field and a count: the paper asks for this enum, and
+// its words say which place that is.
 #[derive(Clone, Copy, Debug, PartialEq, Eq)]
 pub enum Place {
     Waiting,
@@ -65,7 +66,8 @@ pub struct View {
     pub holder: u16,
 }
 
-// What a slot brings about, for the unit to act on.
+// What a slot brings about, for the unit to act on. `Nothing` is one case among the others, since whoever acts on an
+// event goes through all of them at one place: an Option round the rest would split each such table in two.
 #[derive(Clone, Copy, Debug, PartialEq, Eq)]
 pub enum Event {
     Nothing,

@@ -70,16 +70,12 @@ fn with_slre(mut regs: Registers, set: bool) -> Registers
 fn command(regs: Registers, v: u8) -> Registers
     ensures { result ≡ commanded regs v }
 {
-    if v == CMR_REQUEST {
-        return request_made(regs);
+    match v {
+        CMR_REQUEST => request_made(regs),
+        CMR_OFFER => with_strq(regs),
+        CMR_CLEAR_SLRE => with_slre(regs, false),
+        _ => lor_copied(regs),
     }
-    if v == CMR_OFFER {
-        return with_strq(regs);
-    }
-    if v == CMR_CLEAR_SLRE {
-        return with_slre(regs, false);
-    }
-    lor_copied(regs)
 }
 
 fn with_own(mut regs: Registers, own: u16) -> Registers
@@ -101,12 +97,9 @@ fn with_slave(mut regs: Registers, slave: u16) -> Registers
 fn uar1_written(mut regs: Registers, v: u8) -> Registers
     ensures { result ≡ uar1_written regs v }
 {
-    let own = regs.own / 16 * 16 + (v / 16) as u16;
-    let enabled = v / 2 % 2 == 1;
-    let long = v % 2 == 1;
-    regs.own = own;
-    regs.enabled = enabled;
-    regs.long = long;
+    regs.own = regs.own / 16 * 16 + (v / 16) as u16;
+    regs.enabled = v / 2 % 2 == 1;
+    regs.long = v % 2 == 1;
     regs
 }
 
@@ -115,12 +108,9 @@ fn uar1_written(mut regs: Registers, v: u8) -> Registers
 fn mcr_written(mut regs: Registers, v: u8) -> Registers
     ensures { result ≡ mcr_written regs v }
 {
-    let bit = 0x80 <= v;
-    let retries = v / 16 % 8;
-    let control = v % 16;
-    regs.bit = bit;
-    regs.retries = retries;
-    regs.control = control;
+    regs.bit = 0x80 <= v;
+    regs.retries = v / 16 % 8;
+    regs.control = v % 16;
     regs
 }
 
@@ -133,7 +123,8 @@ fn ctr_written(regs: Registers, v: u8) -> Registers
     regs
 }
 
-// The registers after an accepted write but a reset's and TBF's.
+// The registers after an accepted write but a reset's and TBF's. The register is a number, as in `check_write`: what is
+// written to one that is not listed is said too.
 #[tactic(auto, unfolding(rules::specs::Registers::written))]
 pub fn write(regs: Registers, register: u8, v: u8) -> Registers
     ensures { result ≡ written regs register v }
@@ -234,11 +225,9 @@ fn reset_registers() -> Registers
 pub fn reset_core() -> Core
     ensures { result ≡ reset_core }
 {
-    let regs = reset_registers();
-    let frame = moves::none();
     Core {
-        regs,
-        frame,
+        regs: reset_registers(),
+        frame: moves::none(),
         idle: false,
     }
 }

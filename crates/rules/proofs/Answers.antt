@@ -5,37 +5,39 @@ use native.Mathlib.Omega.{arith}
 use Rattle.line.specs.Slot.{host, kind_of}
 use Rattle.isolation.specs.Runs.{shown, latest}
 use Rattle.rules.specs.Step.{word_of}
-use Rattle.rules.specs.declared.answer.Answer.TheVariants.{Given, Refused}
+use Rattle.std.specs.Prelude.{Ok, Err}
+use Rattle.rules.specs.Answers.{number_of}
+use Rattle.rules.specs.declared.answer.Refusal.{Refusal}
 use Rattle.rules.specs.declared.answer.Reply.TheVariants.{Taken, Written, Read}
 
-pub latest_taken : (d x : ℕ) → latest d (word_of (Given (Taken x))) ≡ x % 4
+pub latest_taken : (d x : ℕ) → latest d (word_of (Ok (Taken x))) ≡ x % 4
 unfolding latest word_of
 latest_taken d x =
-    let e : kind_of (word_of (Given (Taken x))) ≡ 8 = omega arith in
+    let e : kind_of (word_of (Ok (Taken x))) ≡ 8 = omega arith in
     rw e (omega arith)
 
-pub latest_written : (d x : ℕ) → latest d (word_of (Given (Written x))) ≡ x % 4
+pub latest_written : (d x : ℕ) → latest d (word_of (Ok (Written x))) ≡ x % 4
 unfolding latest word_of
 latest_written d x =
-    let e : kind_of (word_of (Given (Written x))) ≡ 9 = omega arith in
+    let e : kind_of (word_of (Ok (Written x))) ≡ 9 = omega arith in
     rw e (omega arith)
 
-pub latest_read : (d v x : ℕ) → latest d (word_of (Given (Read v x))) ≡ x % 4
+pub latest_read : (d v x : ℕ) → latest d (word_of (Ok (Read v x))) ≡ x % 4
 unfolding latest word_of
 latest_read d v x =
-    let e : kind_of (word_of (Given (Read v x))) ≡ 10 = omega arith in
+    let e : kind_of (word_of (Ok (Read v x))) ≡ 10 = omega arith in
     rw e (omega arith)
 
-pub latest_refused : (d n : ℕ) → latest d (word_of (Refused n)) ≡ d
+pub latest_refused : (d : ℕ) (e : Refusal) → latest d (word_of (Err e)) ≡ d
 unfolding latest word_of
-latest_refused d n =
-    let e : kind_of (word_of (Refused n)) ≡ 15 = omega arith in
-    rw e
+latest_refused d e =
+    let k : kind_of (word_of (Err e)) ≡ 15 = omega arith in
+    rw k
 
-pub shown_written : (x y : ℕ) → shown host (word_of (Given (Written x))) ≡ shown host (word_of (Given (Written y)))
+pub shown_written : (x y : ℕ) → shown host (word_of (Ok (Written x))) ≡ shown host (word_of (Ok (Written y)))
 unfolding shown word_of
 shown_written x y = omega arith
 
-pub shown_read : (v x y : ℕ) → shown host (word_of (Given (Read v x))) ≡ shown host (word_of (Given (Read v y)))
+pub shown_read : (v x y : ℕ) → shown host (word_of (Ok (Read v x))) ≡ shown host (word_of (Ok (Read v y)))
 unfolding shown word_of
 shown_read v x y = omega arith

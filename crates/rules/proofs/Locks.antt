@@ -9,9 +9,9 @@ use borrow.Author.Tests.{eqb-true, eqb-false, ltb-true, ltb-false}
 use lib.Dec.{T, eqb, ltb}
 use lib.ListN.{length, take}
 use Rattle.line.specs.Parity.{parity_holds}
-use Rattle.line.specs.Slot.{Class, slot, host, class_of, kind_of}
+use Rattle.line.specs.Slot.{Class, slot, stray, host, class_of, kind_of}
 use Rattle.line.specs.declared.slot.Slot.{Slot}
-use Rattle.line.specs.declared.slot.Slot.TheVariants.{Level, Start, Idle, Stray}
+use Rattle.line.specs.declared.slot.Slot.TheVariants.{Level, Start, Idle}
 use Rattle.line.proofs.Either.{either}
 use Rattle.place.specs.Frame.{begun_of, done_of, next_of, shifted_of, to_field, with_length}
 use Rattle.place.specs.Slaves.{accepted_of, control_of, open_to, stranger_of, writes_of}
@@ -43,6 +43,7 @@ use Rattle.rules.specs.Slots.{on_control_acked, on_event, on_idle, on_length_ack
 use Rattle.rules.specs.Slots.{reception_begun, sending_begun, wanted, with_byte, with_code, with_count}
 use Rattle.rules.specs.Step.{acted_on, clashes, slot_on, step_as, step_of, told_on}
 use Rattle.rules.specs.Registers as registers
+use Rattle.rules.proofs.Looked.{unless_ind}
 use Rattle.rules.specs.Registers.{Told, wrote, restarted, gave, denied, told_of}
 use Rattle.rules.specs.declared.state.Act.{Act}
 use Rattle.rules.specs.declared.state.Act.TheVariants.{Nothing, Take}
@@ -437,7 +438,6 @@ module _ (h : ℕ) (s : State) (bond : Bonded h s) (locked : s.core.regs.locked 
   slot_bonded Idle =
       let ok = cut_ok h s.core named bond.tied in
       record { fast = ok.fast; tied = ok.tied }
-  slot_bonded Stray = bond
 
 -- ---- host words leave the lock as it is, or reset all
 
@@ -480,17 +480,17 @@ unfolding told_of registers.write_told registers.write_done registers.read_told
 told_lock r tbf rbf w =
     pick_ind (Tells r) (eqb (kind_of w) 1) _ _
     (λ t. pick_ind (Tells r) (eqb (w / 256 % 65536) 0) _ _
-    (λ u. pick_ind (Tells r) (eqb (registers.write_refusal r (length tbf) (registers.register_of w)
-    (registers.value_of w)) 0) _ _
-    (λ x. pick_ind (Tells r) (eqb (registers.register_of w) 0xE) _ _ (λ y. unmoved r)
+    (λ u. unless_ind (Tells r) (registers.write_refusal r (length tbf) (registers.register_of w)
+    (registers.value_of w)) _
+    (pick_ind (Tells r) (eqb (registers.register_of w) 0xE) _ _ (λ y. unmoved r)
     (λ y. pick_ind (Tells r) (eqb (registers.register_of w) 0x0 && eqb (registers.value_of w) 0x08) _ _ (λ z. tt)
     (λ z. written_lock r (registers.register_of w) (registers.value_of w))))
     (λ x. tt))
     (λ u. tt))
     (λ t. pick_ind (Tells r) (eqb (kind_of w) 2) _ _
     (λ u. pick_ind (Tells r) (eqb (w % 0x0100_0000) 0) _ _
-    (λ x. pick_ind (Tells r) (eqb (registers.read_refusal (registers.register_of w) (is_empty rbf)) 0) _ _
-    (λ y. pick_ind (Tells r) (eqb (registers.register_of w) 0xE) _ _ (λ z. tt) (λ z. tt)) (λ y. tt))
+    (λ x. unless_ind (Tells r) (registers.read_refusal (registers.register_of w) (is_empty rbf)) _
+    (pick_ind (Tells r) (eqb (registers.register_of w) 0xE) _ _ (λ z. tt) (λ z. tt)) (λ y. tt))
     (λ x. tt))
     (λ u. tt))
 
@@ -504,6 +504,7 @@ module _ (h : ℕ) (s : State) (bond : Bonded h s) (locked : s.core.regs.locked 
 
   word_bonded : (w : ℕ) (k : Class) → Bonded h (step_as k s w)
   word_bonded w (slot c) = slot_bonded h s bond locked c
+  word_bonded w stray = bond
   word_bonded w host = told_bonded (told_of s.core.regs s.tbf s.rbf w)
       (told_lock s.core.regs s.tbf s.rbf w)
 

@@ -6,8 +6,8 @@ use mathlib.Core.List.{List, [], ◌∷◌}
 use Prim.Native.Nat.{ℕ, ◌%◌}
 use lib.Dec.{T, eqb}
 use Rattle.line.specs.Choice.{bit_of, ◌▹◌}
-use Rattle.line.specs.Slot.{Class, slot, host, class_of}
-use Rattle.line.specs.declared.slot.Slot.TheVariants.{Level, Start, Idle, Stray}
+use Rattle.line.specs.Slot.{Class, slot, stray, host, class_of}
+use Rattle.line.specs.declared.slot.Slot.TheVariants.{Level, Start, Idle}
 use Rattle.place.specs.Frame.{begun_of, done_of}
 use Rattle.place.specs.Drive as drive
 use Rattle.place.specs.Slaves.{writes_of}
@@ -29,8 +29,9 @@ use Rattle.rules.specs.Step.{acted_on, answer_of, clashes, next_drive, said_as, 
 use Rattle.rules.specs.Step.{told_on, told_said}
 use Rattle.rules.specs.Step.{word_of}
 use Rattle.rules.specs.Machine.{observed, unit, waiting}
-use Rattle.rules.specs.declared.answer.Answer.{Answer}
-use Rattle.rules.specs.declared.answer.Answer.TheVariants.{Given}
+use Rattle.rules.specs.Answers.{Answer}
+use Rattle.std.specs.Prelude.{Ok, Err}
+use Rattle.rules.specs.declared.answer.Refusal.TheVariants.{StrayBit}
 use Rattle.rules.specs.declared.answer.Reply.TheVariants.{Taken}
 use Rattle.rules.specs.declared.state.Act.{Act}
 use Rattle.rules.specs.declared.state.Act.TheVariants.{Nothing}
@@ -126,18 +127,18 @@ after_same a s e q = ap₂ (λ (r : Registers) (x : Act). record
 
 -- what is driven after a slot that is taken
 taken_drive : (d : ℕ) (t : State) → waiting t → t.core.regs.marq ≡ false
-    → latest d (word_of (Given (Taken (next_drive t)))) ≡ 1
+    → latest d (word_of (Ok (Taken (next_drive t)))) ≡ 1
 taken_drive d t e q = latest_taken d (next_drive t) ∙ ap (λ (x : ℕ). x % 4) (drive_waiting t e q)
 
 -- ---- stray bits, idle slots
 
-stray_word : (s : State) (w : ℕ) → class_of w ≡ slot Stray
+stray_word : (s : State) (w : ℕ) → class_of w ≡ stray
     → (step_of s w ≡ s) × ((d : ℕ) → latest d (word_of (answer_of s w)) ≡ d)
 unfolding slot_on slot_said
 stray_word s w r = (
-  stepped s w (slot Stray) r,
-  λ d. ap (λ (a : Answer). latest d (word_of a)) (said s w (slot Stray) r)
-      ∙ latest_refused d 2,
+  stepped s w stray r,
+  λ d. ap (λ (a : Answer). latest d (word_of a)) (said s w stray r)
+      ∙ latest_refused d StrayBit,
 )
 
 idle_waits : (s : State) (w : ℕ) → class_of w ≡ slot Idle → waiting (step_of s w)
@@ -272,7 +273,7 @@ start_stepped s w r e =
     ∙ ap (λ (a : Acted). acted_on s (a ▹ acted·core (slots.begun a.core (is_empty s.rbf))))
     (cut_waiting s.core e)
 
-start_said : (s : State) (w : ℕ) → class_of w ≡ slot Start → answer_of s w ≡ Given (Taken (next_drive (step_of s w)))
+start_said : (s : State) (w : ℕ) → class_of w ≡ slot Start → answer_of s w ≡ Ok (Taken (next_drive (step_of s w)))
 unfolding slot_said
 start_said s w r = said s w (slot Start) r
 
@@ -283,7 +284,7 @@ start_word : (s t : State) (w : ℕ) → class_of w ≡ slot Start → waiting s
 start_word s t w r ws wt e q =
     let same : step_of s w ≡ step_of t w = start_stepped s w r ws ∙ ap begun e ∙ sym (start_stepped t w r wt) in (
       same,
-      ap word_of (start_said s w r ∙ ap (λ (z : State). Given (Taken (next_drive z))) same ∙ sym (start_said t w r)),
+      ap word_of (start_said s w r ∙ ap (λ (z : State). Ok (Taken (next_drive z))) same ∙ sym (start_said t w r)),
       λ d n. ap (λ (a : Answer). latest d (word_of a)) (start_said s w r) ∙ latest_taken d _ ∙ sym (latest_taken n _)
           ∙ sym (ap (λ (a : Answer). latest n (word_of a)) (start_said s w r)),
     )

@@ -6,9 +6,10 @@ use mathlib.Core.List.{List}
 use Prim.Native.Nat.{ℕ, ◌%◌}
 use borrow.Author.Tests.{not-false}
 use lib.Dec.{eqb, ltb}
+use Rattle.std.specs.Prelude.{Some}
 use Rattle.line.specs.Choice.{pick}
 use Rattle.line.specs.declared.slot.Slot.{Slot}
-use Rattle.line.specs.declared.slot.Slot.TheVariants.{Level, Start, Idle, Stray}
+use Rattle.line.specs.declared.slot.Slot.TheVariants.{Level, Start, Idle}
 use Rattle.place.specs.Frame.{done_of, next_of, shifted_of, to_field, width_of}
 use Rattle.place.specs.Masters.{clash_of, contested_of}
 use Rattle.place.specs.Slaves.{writes_of}
@@ -252,7 +253,7 @@ pub record AsReady (s t : State) : Type 0 where
   pub slre : t.core.regs.slre ≡ s.core.regs.slre
   pub rbf : t.rbf ≡ s.rbf
 
-acted_ready : (s : State) (c : Slot) → Kept s.core (on_slot s.core c (seen_of s.tbf s.rbf))
+acted_ready : (s : State) (c : Slot) → Kept s.core (on_slot s.core (Some c) (seen_of s.tbf s.rbf))
     → AsReady s (acted_by s c)
 acted_ready s c k = record { slre = k.slre; rbf = k.rbf s.rbf }
 
@@ -278,4 +279,3 @@ slot_ready s (Level bit) e =
     (λ t. acted_ready s (Level bit) (on-level s.core bit _ e))
 slot_ready s Start e = acted_ready s Start (on-start s.core _ e)
 slot_ready s Idle e = acted_ready s Idle (on-idle s.core e)
-slot_ready s Stray e = record { slre = refl; rbf = refl }

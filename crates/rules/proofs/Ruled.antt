@@ -8,20 +8,24 @@ use borrow.Author.Tests.{eq-eqb, eqb-false, le-leb, lt-leb, ne_eqb}
 use native.Mathlib.Omega.{arith}
 use lib.Dec.{T, eqb, leb, ltb}
 use lib.ListN.{drop, get_or, length, get_or-eq_default}
+use Rattle.std.specs.Prelude.{Ok, Err, Some, None}
+use Rattle.std.specs.declared.option.Option.{Option}
 use Rattle.line.specs.Choice.{pick}
-use Rattle.line.specs.Slot.{Class, slot, host, class_of, kind_of, slot_of, slots}
+use Rattle.line.specs.Slot.{Class, slot, stray, host, class_in, class_of, kind_of, slot_of, slots}
 use Rattle.line.proofs.Either.{below_or_not, by_value, either, same_or_not}
 use Rattle.line.specs.declared.slot.Slot.{Slot}
-use Rattle.line.specs.declared.slot.Slot.TheVariants.{Level, Start, Idle, Stray}
+use Rattle.line.specs.declared.slot.Slot.TheVariants.{Level, Start, Idle}
 use Rattle.place.specs.Slaves.{writes_of}
-use Rattle.rules.specs.declared.answer.Answer.{Answer}
-use Rattle.rules.specs.declared.answer.Answer.TheVariants.{Given, Refused}
+use Rattle.rules.specs.declared.answer.Refusal.{Refusal}
+use Rattle.rules.specs.declared.answer.Refusal.TheVariants.{UnknownKind, StrayBit, UnlistedRegister, UnlistedValue}
+use Rattle.rules.specs.declared.answer.Refusal.TheVariants.{LevelUnheard, OutOfTurn, Full, TooFew, Empty, Unable}
 use Rattle.rules.specs.declared.answer.Reply.{Reply}
 use Rattle.rules.specs.declared.answer.Reply.TheVariants.{Taken}
 use Rattle.rules.specs.declared.state.Registers.{Registers}
+use Rattle.rules.specs.Answers.{Answer, Looked, fine, number_of}
 use Rattle.rules.specs.Refusals.{Ruling, accepted, refused, Ruled, Word, among, apart, lowest, rows, ruling_of}
 use Rattle.rules.specs.Refusals.{read_controls, write_controls, undefined_controls, unlisted_mcr}
-use Rattle.rules.specs.Registers.{Told, wrote, restarted, gave, denied, told_of, write_told, write_done, read_told}
+use Rattle.rules.specs.Registers.{Told, wrote, restarted, gave, denied, unless, told_of, write_told, write_done, read_told}
 use Rattle.rules.specs.Registers.{write_refusal, read_refusal, ctr_refusal, cmr_refusal, uar_refusal, tbf_refusal}
 use Rattle.rules.specs.Registers.{request_refusal, control_listed, mcr_listed, read_value, register_of, value_of}
 use Rattle.rules.specs.State.{State, is_empty}
@@ -29,44 +33,45 @@ use Rattle.rules.specs.Step.{answer_of, clashes, next_drive, said_as, slot_on, s
 use Rattle.rules.specs.Step.{told_on, told_said}
 use Rattle.rules.proofs.Calm.{pick_ind}
 
--- a refusal's number as a ruling, 0 being none
-abbrev of_number : ℕ → Ruling
-of_number n = pick (eqb n 0) accepted (refused n)
+-- a refusal, or none, as a ruling
+abbrev of_looked : Looked → Ruling
+of_looked (Ok x) = accepted
+of_looked (Err e) = refused (number_of e)
 
 -- a host word's outcome as a ruling
 abbrev of_told : Told → Ruling
 of_told (wrote r tbf) = accepted
 of_told restarted = accepted
 of_told (gave rbf v) = accepted
-of_told (denied n) = refused n
+of_told (denied e) = refused (number_of e)
 
 told_ruling : (t : State) (told : Told) → ruling_of (told_said t told) ≡ of_told told
 told_ruling t (wrote r tbf) = refl
 told_ruling t restarted = refl
 told_ruling t (gave rbf v) = refl
-told_ruling t (denied n) = refl
+told_ruling t (denied e) = refl
 
 -- ---- a few rows
 
--- a refusal's number by its conditions, and the rows of those conditions as they stand in the tables
-one_row : (n : ℕ) (x : Bool) → eqb n 0 ≡ false → of_number (pick x n 0) ≡ pick x (refused n) accepted
-one_row n true e = rw e
-one_row n false e = refl
+-- a refusal by its conditions, and the rows of those conditions as they stand in the tables
+one_row : (e : Refusal) (x : Bool) → of_looked (pick x (Err e) fine) ≡ pick x (refused (number_of e)) accepted
+one_row e true = refl
+one_row e false = refl
 
-ctr_rows : (a b c : Bool) → of_number (pick (a || b || c) 0 4)
+ctr_rows : (a b c : Bool) → of_looked (pick (a || b || c) fine (Err UnlistedValue))
     ≡ pick (not (a || (b || (c || false))) || false || false || false || false) (refused 4) accepted
 ctr_rows true b c = refl
 ctr_rows false true c = refl
 ctr_rows false false true = refl
 ctr_rows false false false = refl
 
-four_rows : (x y z u : Bool) → of_number (pick (not x) 4 (pick y 6 (pick z 8 (pick u 10 0))))
+four_rows : (x y z u : Bool) → of_looked (pick (not x) (Err UnlistedValue) (pick y (Err OutOfTurn) (pick z (Err TooFew) (pick u (Err Unable) fine))))
     ≡ pick (not x || false || false || false) (refused 4)
     (pick (y || false) (refused 6) (pick z (refused 8) (pick u (refused 10) accepted)))
 four_rows false y z u = refl
 four_rows true true z u = refl
 four_rows true false true u = refl
-four_rows true false false u = one_row 10 u refl
+four_rows true false false u = one_row Unable u
 
 listed_four : (a b c d : Bool) → (a || b || c || d) ≡ (a || (b || (c || (d || false))))
 listed_four true b c d = refl
@@ -75,21 +80,21 @@ listed_four false false true d = refl
 listed_four false false false true = refl
 listed_four false false false false = refl
 
-uar1_rows : (x y : Bool) → of_number (pick (not x) 4 (pick y 6 0))
+uar1_rows : (x y : Bool) → of_looked (pick (not x) (Err UnlistedValue) (pick y (Err OutOfTurn) fine))
     ≡ pick (not x || false || false) (refused 4) (pick y (refused 6) accepted)
 uar1_rows false y = refl
-uar1_rows true y = one_row 6 y refl
+uar1_rows true y = one_row OutOfTurn y
 
-request_row : (y : Bool) → of_number (pick y 6 0) ≡ pick (y || false || false) (refused 6) accepted
+request_row : (y : Bool) → of_looked (pick y (Err OutOfTurn) fine) ≡ pick (y || false || false) (refused 6) accepted
 request_row true = refl
 request_row false = refl
 
-sar1_rows : (x y : Bool) → of_number (pick (not x) 4 (pick y 6 0))
+sar1_rows : (x y : Bool) → of_looked (pick (not x) (Err UnlistedValue) (pick y (Err OutOfTurn) fine))
     ≡ pick (not x || false) (refused 4) (pick (y || false || false) (refused 6) accepted)
 sar1_rows false y = refl
 sar1_rows true y = request_row y
 
-mcr_rows : (x y : Bool) → of_number (pick (not x) 4 (pick y 6 0))
+mcr_rows : (x y : Bool) → of_looked (pick (not x) (Err UnlistedValue) (pick y (Err OutOfTurn) fine))
     ≡ pick (not x) (refused 4) (pick (y || false || false) (refused 6) accepted)
 mcr_rows false y = refl
 mcr_rows true y = request_row y
@@ -148,21 +153,21 @@ done_accepted r tbf register v =
     pick_ind (λ (t : Told). of_told t ≡ accepted) (eqb register 0xE) _ _ (λ e. refl)
     (λ e. pick_ind (λ (t : Told). of_told t ≡ accepted) (eqb register 0 && eqb v 0x08) _ _ (λ f. refl) (λ f. refl))
 
+looked_ruling : (looked : Looked) (told : Told) → of_told told ≡ accepted → of_told (unless looked told) ≡ of_looked looked
+looked_ruling (Ok x) told done = done
+looked_ruling (Err e) told done = refl
+
 write_ruling : (r : Registers) (tbf : List ℕ) (register v : ℕ) → of_told (write_told r tbf register v)
-    ≡ of_number (write_refusal r (length tbf) register v)
+    ≡ of_looked (write_refusal r (length tbf) register v)
 unfolding write_told
 write_ruling r tbf register v =
-    go (eqb (write_refusal r (length tbf) register v) 0)
-  where
-    go : (b : Bool) → of_told (pick b (write_done r tbf register v) (denied (write_refusal r (length tbf) register v)))
-        ≡ pick b accepted (refused (write_refusal r (length tbf) register v))
-    go true = done_accepted r tbf register v
-    go false = refl
+    looked_ruling (write_refusal r (length tbf) register v) (write_done r tbf register v)
+    (done_accepted r tbf register v)
 
 module _ (s : State) (w v : ℕ) (clean : eqb (w / 256 % 65536) 0 ≡ true) where
   abbrev Right : ℕ → Type 0
   Right register =
-      of_number (write_refusal s.core.regs (length s.tbf) register v) ≡ lowest (rows s (writes w register v))
+      of_looked (write_refusal s.core.regs (length s.tbf) register v) ≡ lowest (rows s (writes w register v))
 
   -- what keeps UAR from being written
   abbrev busy : Bool
@@ -190,7 +195,7 @@ module _ (s : State) (w v : ℕ) (clean : eqb (w / 256 % 65536) 0 ≡ true) wher
 
   at_uar2 : Right 0x3
   unfolding write_refusal uar_refusal lowest among
-  at_uar2 = rw clean (one_row 6 busy refl)
+  at_uar2 = rw clean (one_row OutOfTurn busy)
 
   at_sar1 : Right 0x4
   unfolding write_refusal request_refusal lowest among
@@ -209,7 +214,7 @@ module _ (s : State) (w v : ℕ) (clean : eqb (w / 256 % 65536) 0 ≡ true) wher
 
   at_tbf : Right 0xE
   unfolding write_refusal tbf_refusal lowest among
-  at_tbf = rw clean (one_row 7 (leb 33 (length s.tbf)) refl)
+  at_tbf = rw clean (one_row Full (leb 33 (length s.tbf)))
 
   write_right : (register : ℕ) → Right register
   unfolding write_refusal lowest among
@@ -227,25 +232,23 @@ abbrev reads : ℕ → ℕ → ℕ → Word
 reads w register v = record { whole = w; kind = 2; register = register; value = v }
 
 read_ruling : (r : Registers) (tbf rbf : List ℕ) (register : ℕ) → of_told (read_told r tbf rbf register)
-    ≡ of_number (read_refusal register (is_empty rbf))
+    ≡ of_looked (read_refusal register (is_empty rbf))
 unfolding read_told
 read_ruling r tbf rbf register =
-    go (eqb (read_refusal register (is_empty rbf)) 0) (eqb register 0xE)
+    looked_ruling (read_refusal register (is_empty rbf)) _ (go (eqb register 0xE))
   where
-    go : (b c : Bool) → of_told (pick b (pick c (gave (drop 1 rbf) (get_or rbf 0 0))
-        (gave rbf (read_value r (length tbf) (length rbf) register))) (denied (read_refusal register (is_empty rbf))))
-        ≡ pick b accepted (refused (read_refusal register (is_empty rbf)))
-    go true true = refl
-    go true false = refl
-    go false c = refl
+    go : (c : Bool) → of_told (pick c (gave (drop 1 rbf) (get_or rbf 0 0))
+        (gave rbf (read_value r (length tbf) (length rbf) register))) ≡ accepted
+    go true = refl
+    go false = refl
 
 module _ (s : State) (w v : ℕ) (clean : eqb (w % 0x0100_0000) 0 ≡ true) where
   abbrev RightRead : ℕ → Type 0
-  RightRead register = of_number (read_refusal register (is_empty s.rbf)) ≡ lowest (rows s (reads w register v))
+  RightRead register = of_looked (read_refusal register (is_empty s.rbf)) ≡ lowest (rows s (reads w register v))
 
   at_rbf : RightRead 0xE
   unfolding read_refusal lowest among is_empty
-  at_rbf = rw clean (one_row 9 (is_empty s.rbf) refl)
+  at_rbf = rw clean (one_row Empty (is_empty s.rbf))
 
   read_right : (register : ℕ) → RightRead register
   unfolding read_refusal lowest among
@@ -268,9 +271,13 @@ module _ (s : State) (w v : ℕ) (clean : eqb (w % 0x0100_0000) 0 ≡ true) wher
 -- ---- slots
 
 module _ (s t : State) (register v : ℕ) where
+  abbrev said_slot : Option Slot → Answer
+  said_slot (Some c) = slot_said s t c
+  said_slot None = Err StrayBit
+
   abbrev RightSlot : ℕ → Type 0
   RightSlot w =
-      ruling_of (slot_said s t (slot_of w))
+      ruling_of (said_slot (slot_of w))
       ≡ lowest (rows s (record { whole = w; kind = 0; register = register; value = v }))
 
   level_right : RightSlot 1
@@ -278,7 +285,7 @@ module _ (s t : State) (register v : ℕ) where
   level_right =
       go (eqb (next_drive s) 0)
     where
-      go : (b : Bool) → ruling_of (pick b (Refused 5) (Given (Taken (next_drive t)))) ≡ pick b (refused 5) accepted
+      go : (b : Bool) → ruling_of (pick b (Err LevelUnheard) (Ok (Taken (next_drive t)))) ≡ pick b (refused 5) accepted
       go true = refl
       go false = refl
 
@@ -288,7 +295,7 @@ module _ (s t : State) (register v : ℕ) where
       by_value RightSlot w 0 refl (λ a. by_value RightSlot w 1 level_right (λ b.
       by_value RightSlot w 2 refl (λ c. by_value RightSlot w 3 refl (λ d.
       let past : 4 ≤ w = omega (arith, eqb-false w 0 a, eqb-false w 1 b, eqb-false w 2 c, eqb-false w 3 d) in
-      rw (get_or-eq_default slots Stray {n = w} past, le-leb 4 w past)))))
+      rw (get_or-eq_default slots None {n = w} past, le-leb 4 w past)))))
 
 -- ---- any word
 
@@ -296,24 +303,25 @@ module _ (s t : State) (w : ℕ) where
   abbrev told_as : ℕ → Told
   told_as kind =
       let r = s.core.regs in
-      pick (eqb kind 1) (pick (eqb (w / 256 % 65536) 0) (write_told r s.tbf (register_of w) (value_of w)) (denied 2))
-      (pick (eqb kind 2) (pick (eqb (w % 0x0100_0000) 0) (read_told r s.tbf s.rbf (register_of w)) (denied 2))
-      (denied 1))
+      pick (eqb kind 1) (pick (eqb (w / 256 % 65536) 0) (write_told r s.tbf (register_of w) (value_of w)) (denied StrayBit))
+      (pick (eqb kind 2) (pick (eqb (w % 0x0100_0000) 0) (read_told r s.tbf s.rbf (register_of w)) (denied StrayBit))
+      (denied UnknownKind))
 
   abbrev said_by : Class → ℕ → Answer
   said_by (slot c) kind = slot_said s t c
+  said_by stray kind = Err StrayBit
   said_by host kind = told_said t (told_as kind)
 
   abbrev RightKind : ℕ → Type 0
   RightKind kind =
-      ruling_of (said_by (pick (eqb kind 0) (slot (slot_of w)) host) kind)
+      ruling_of (said_by (pick (eqb kind 0) (class_in (slot_of w)) host) kind)
       ≡ lowest (rows s (record { whole = w; kind = kind; register = register_of w; value = value_of w }))
 
   right_write : RightKind 1
   unfolding lowest among
   right_write =
       let told = write_told s.core.regs s.tbf (register_of w) (value_of w) in
-      ⊎_elim (λ clean. ap (λ (b : Bool). ruling_of (told_said t (pick b told (denied 2)))) clean ∙ told_ruling t told
+      ⊎_elim (λ clean. ap (λ (b : Bool). ruling_of (told_said t (pick b told (denied StrayBit)))) clean ∙ told_ruling t told
       ∙ write_ruling s.core.regs s.tbf (register_of w) (value_of w)
       ∙ write_right s w (value_of w) clean (register_of w)) (λ stray. rw stray) (either (eqb (w / 256 % 65536) 0))
 
@@ -321,19 +329,24 @@ module _ (s t : State) (w : ℕ) where
   unfolding lowest among
   right_read =
       let told = read_told s.core.regs s.tbf s.rbf (register_of w) in
-      ⊎_elim (λ clean. ap (λ (b : Bool). ruling_of (told_said t (pick b told (denied 2)))) clean ∙ told_ruling t told
+      ⊎_elim (λ clean. ap (λ (b : Bool). ruling_of (told_said t (pick b told (denied StrayBit)))) clean ∙ told_ruling t told
       ∙ read_ruling s.core.regs s.tbf s.rbf (register_of w)
       ∙ read_right s w (value_of w) clean (register_of w)) (λ stray. rw stray) (either (eqb (w % 0x0100_0000) 0))
+
+  said_in : (c : Option Slot) → said_by (class_in c) 0 ≡ said_slot s t (register_of w) (value_of w) c
+  said_in (Some c) = refl
+  said_in None = refl
 
   right_kind : (kind : ℕ) → RightKind kind
   unfolding lowest among
   right_kind kind =
-      by_value RightKind kind 0 (slot_right s t (register_of w) (value_of w) w) (λ a.
+      by_value RightKind kind 0 (ap ruling_of (said_in (slot_of w)) ∙ slot_right s t (register_of w) (value_of w) w) (λ a.
       by_value RightKind kind 1 right_write (λ b. by_value RightKind kind 2 right_read (λ c. rw (a, b, c))))
 
 said-by : (s t : State) (w : ℕ) (k : Class) → said_as k s t w ≡ said_by s t w k (kind_of w)
 unfolding told_of
 said-by s t w (slot c) = refl
+said-by s t w stray = refl
 said-by s t w host = refl
 
 -- the answer to a word is what the tables say
@@ -347,32 +360,32 @@ abbrev is_given : Ruling → Bool
 is_given accepted = true
 is_given (refused n) = false
 
-pub given_is_none : (reply : Reply) (n : ℕ) → Given reply ≡ Refused n → ⊥
+pub given_is_none : (reply : Reply) (n : Refusal) → (Ok reply) ≡ (Err n) → ⊥
 given_is_none reply n e = subst T (ap (λ (a : Answer). is_given (ruling_of a)) e) tt
 
-told_unchanged : (s t : State) (told : Told) (n : ℕ) → told_said t told ≡ Refused n → told_on s told ≡ s
+told_unchanged : (s t : State) (told : Told) (n : Refusal) → told_said t told ≡ Err n → told_on s told ≡ s
 told_unchanged s t (wrote r tbf) n e = absurd (given_is_none _ n e)
 told_unchanged s t restarted n e = absurd (given_is_none _ n e)
 told_unchanged s t (gave rbf v) n e = absurd (given_is_none _ n e)
 told_unchanged s t (denied m) n e = refl
 
-level_unchanged : (b : Bool) (s t : State) (reply : Reply) (n : ℕ) → pick b (Refused 5) (Given reply) ≡ Refused n
+level_unchanged : (b : Bool) (s t : State) (reply : Reply) (n : Refusal) → pick b (Err LevelUnheard) (Ok reply) ≡ Err n
     → pick b s t ≡ s
 level_unchanged true s t reply n e = refl
 level_unchanged false s t reply n e = absurd (given_is_none reply n e)
 
-slot_unchanged : (s t : State) (c : Slot) (n : ℕ) → slot_said s t c ≡ Refused n → slot_on s c ≡ s
+slot_unchanged : (s t : State) (c : Slot) (n : Refusal) → slot_said s t c ≡ Err n → slot_on s c ≡ s
 unfolding slot_said slot_on
 slot_unchanged s t (Level bit) n e = level_unchanged (clashes s bit) s _ _ n e
 slot_unchanged s t Start n e = absurd (given_is_none _ n e)
 slot_unchanged s t Idle n e = absurd (given_is_none _ n e)
-slot_unchanged s t Stray n e = refl
 
-as_unchanged : (s : State) (w : ℕ) (k : Class) (n : ℕ) → said_as k s (step_as k s w) w ≡ Refused n → step_as k s w ≡ s
+as_unchanged : (s : State) (w : ℕ) (k : Class) (n : Refusal) → said_as k s (step_as k s w) w ≡ Err n → step_as k s w ≡ s
 as_unchanged s w (slot c) n e = slot_unchanged s (slot_on s c) c n e
+as_unchanged s w stray n e = refl
 as_unchanged s w host n e = told_unchanged s _ (told_of s.core.regs s.tbf s.rbf w) n e
 
-pub refused_unchanged : (s : State) (w n : ℕ) → answer_of s w ≡ Refused n → step_of s w ≡ s
+pub refused_unchanged : (s : State) (w : ℕ) (n : Refusal) → answer_of s w ≡ Err n → step_of s w ≡ s
 unfolding answer_of step_of
 refused_unchanged s w n e = as_unchanged s w (class_of w) n e
 

@@ -28,7 +28,7 @@ use Rattle.rules.specs.Slots.{core_drive, on_event, on_level, on_moved}
 use Rattle.rules.specs.State.{State, is_empty, ready_of, seen_of, status_byte, view_of}
 use Rattle.rules.specs.Step.{acted_by, acted_on, answer_of, clashes, next_drive, said_as, slot_on, slot_said, step_as}
 use Rattle.rules.specs.Step.{step_of, word_of}
-use Rattle.rules.specs.declared.answer.Answer.TheVariants.{Given}
+use Rattle.std.specs.Prelude.{Ok}
 use Rattle.rules.specs.declared.answer.Reply.TheVariants.{Taken}
 use Rattle.rules.specs.declared.state.Acted.{Acted}
 use Rattle.rules.specs.declared.state.Registers.{Registers}
@@ -194,9 +194,9 @@ module _ (s : State) (bit : Bool) (x : WriteComes s bit) where
   write_answered e =
       ap (λ (k : Class). word_of (said_as k s (step_of s (bit_of bit)) (bit_of bit))) (level_word bit)
       ∙ ap word_of (pick_no (clashes s bit) _ _ no_clash)
-      ∙ ap (λ (d : ℕ). word_of (Given (Taken d)))
+      ∙ ap (λ (d : ℕ). word_of (Ok (Taken d)))
       (ap next_drive comes_to ∙ drive-of v.ready e ∙ sym (status_bits s.core.regs (is_empty s.rbf)).bit_1)
       ∙ said (closed s) (omega arith)
     where
-      said : (d : ℕ) → d < 4 → word_of (Given (Taken d)) ≡ 0x8000_0000 + d * 256
+      said : (d : ℕ) → d < 4 → word_of (Ok (Taken d)) ≡ 0x8000_0000 + d * 256
       said d l = omega arith

@@ -192,7 +192,7 @@ module _ (s : State) (x : SendsStatus s (In Length 9)) where
   -- and its bit 1 holds as long as the host leaves SLRE and RBF, and the unit receives nothing
   pub told_stays : (A : List ℕ) → undisturbed (unit.step s 0) A ≡ true
       → closed (run unit (unit.step s 0) A) ≡ (unit.step s 0).core.frame.byte / 2 % 2
-  unfolding class_of
+  unfolding class_of slot_of
   told_stays A e =
       let t = run unit (unit.step s 0) A in
       let first = step_ready s 0 (rw (x.place, x.sends)) in

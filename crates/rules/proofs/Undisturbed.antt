@@ -9,10 +9,12 @@ use lib.Dec.{eqb}
 use lib.ListN.{length}
 use Rattle.line.specs.Numbers.{cmr_clear_slre, ctr_nothing, ctr_reset, ctr_set_slre, kind_read, kind_write, reg_cmr, reg_ctr}
 use Rattle.line.specs.Numbers.{reg_rbf, reg_sar1, reg_sar2, reg_tbf, reg_uar1, reg_uar2}
-use Rattle.line.specs.Slot.{Class, slot, host, class_of, kind_of}
+use Rattle.line.specs.Slot.{Class, slot, stray, host, class_of, kind_of}
 use Rattle.line.proofs.Either.{both, neither}
 use Rattle.isolation.specs.Runs.{run}
 use Rattle.rules.specs.Machine.{unit}
+use Rattle.rules.proofs.Looked.{unless_ind}
+use Rattle.rules.specs.declared.answer.Refusal.{Refusal}
 use Rattle.rules.specs.Registers.{Told, wrote, gave, denied, commanded, lor_copied, mcr_written, read_told}
 use Rattle.rules.specs.Registers.{read_refusal, register_of, requested, told_of, uar1_written, value_of, write_done}
 use Rattle.rules.specs.Registers.{write_refusal, write_told, written}
@@ -80,31 +82,31 @@ module _ (s : State) where
   unfolding Spares
   gave_spares v = record { slre = refl; rbf = refl }
 
-  denied_spares : (n : ℕ) → Spares (denied n)
+  denied_spares : (e : Refusal) → Spares (denied e)
   unfolding Spares
-  denied_spares n = record { slre = refl; rbf = refl }
+  denied_spares e = record { slre = refl; rbf = refl }
 
   on_write : (register v : ℕ) → (eqb register reg_ctr ≡ true → v ≡ ctr_nothing)
       → (eqb register reg_cmr ≡ true → eqb v cmr_clear_slre ≡ true → ⊥)
       → Spares (write_told s.core.regs s.tbf register v)
   unfolding write_told write_done Same
   on_write register v ctr cmr =
-      pick_ind Spares (eqb (write_refusal s.core.regs (length s.tbf) register v) 0) _ _
-      (λ t. pick_ind Spares (eqb register reg_tbf) _ _ (λ u. wrote_spares _ _ refl)
+      unless_ind Spares (write_refusal s.core.regs (length s.tbf) register v) _
+      (pick_ind Spares (eqb register reg_tbf) _ _ (λ u. wrote_spares _ _ refl)
       (λ u. pick_ind Spares (eqb register reg_ctr && eqb v ctr_reset) _ _
       (λ x.
       let y = both (eqb register reg_ctr) (eqb v ctr_reset) x in
       absurd (omega (arith, eqb-true v ctr_reset y.1, ctr y.0)))
       (λ x. wrote_spares _ _ (written_same s.core.regs register v ctr cmr))))
-      (λ t. denied_spares _)
+      denied_spares
 
   on_read : (register : ℕ) → (eqb register reg_rbf ≡ true → ⊥)
       → Spares (read_told s.core.regs s.tbf s.rbf register)
   unfolding read_told
   on_read register other =
-      pick_ind Spares (eqb (read_refusal register (is_empty s.rbf)) 0) _ _
-      (λ t. pick_ind Spares (eqb register reg_rbf) _ _ (λ u. absurd (other u)) (λ u. gave_spares _))
-      (λ t. denied_spares _)
+      unless_ind Spares (read_refusal register (is_empty s.rbf)) _
+      (pick_ind Spares (eqb register reg_rbf) _ _ (λ u. absurd (other u)) (λ u. gave_spares _))
+      denied_spares
 
   host_ready : (w : ℕ) → touches w ≡ false → Spares (told_of s.core.regs s.tbf s.rbf w)
   unfolding told_of touches
@@ -134,6 +136,7 @@ module _ (s : State) where
 -- a slot in which the unit receives nothing, or a word of the host's that leaves SLRE and RBF
 abbrev pub spares : Class → State → ℕ → Bool
 spares (slot c) s w = not (receives s)
+spares stray s w = not (receives s)
 spares host s w = not (touches w)
 
 unfoldable pub undisturbed : State → List ℕ → Bool
@@ -146,6 +149,7 @@ step_ready s w e = go (class_of w) e
   where
     go : (k : Class) → spares k s w ≡ true → AsReady s (step_as k s w)
     go (slot c) e = slot_ready s c (not-true (receives s) e)
+    go stray e = record { slre = refl; rbf = refl }
     go host e = host_ready s w (not-true (touches w) e)
 
 pub stays_ready : (s : State) (A : List ℕ) → undisturbed s A ≡ true → AsReady s (run unit s A)

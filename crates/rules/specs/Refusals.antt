@@ -1,6 +1,6 @@
 -- Demand 1 for one word: document 01, "Refused because of the input" and "Refused because of the state", row by row,
 -- each under its own condition alone. "The lowest number wins. A refusal changes no state".
-use Rattle.std.specs.Prelude.{ℕ, ◌/◌, ◌%◌, Bool, false, not, ◌&&◌, ◌||◌, List, [], ◌∷◌, ◌≡◌, eqb, leb, ltb, length}
+use Rattle.std.specs.Prelude.{ℕ, ◌/◌, ◌%◌, Bool, false, not, ◌&&◌, ◌||◌, List, [], ◌∷◌, ◌≡◌, eqb, leb, ltb, length, Ok, Err}
 use Rattle.line.specs.Choice.{pick}
 use Rattle.line.specs.Slot.{kind_of}
 use Rattle.line.specs.Numbers.{kind_slot, kind_write, kind_read, drive_low, tbf_bytes}
@@ -9,9 +9,9 @@ use Rattle.line.specs.Numbers.{refused_out_of_turn, refused_full, refused_too_fe
 use Rattle.line.specs.Numbers.{ctr_nothing, ctr_reset, ctr_set_slre, cmr_request, cmr_offer, cmr_clear_slre, cmr_copy_lock}
 use Rattle.line.specs.Numbers.{reg_ctr, reg_cmr, reg_uar1, reg_uar2, reg_sar1, reg_sar2, reg_mcr, reg_tbf}
 use Rattle.line.specs.Numbers.{reg_str, reg_flg, reg_rdr1, reg_rdr2, reg_lor1, reg_lor2, reg_rcr, reg_rbf}
-use Rattle.rules.specs.declared.answer.Answer.{Answer}
-use Rattle.rules.specs.declared.answer.Answer.TheVariants.{Given, Refused}
+use Rattle.rules.specs.declared.answer.Refusal.{Refusal}
 use Rattle.rules.specs.declared.state.Registers.{Registers}
+use Rattle.rules.specs.Answers.{Answer, number_of}
 use Rattle.rules.specs.Registers.{register_of, value_of}
 use Rattle.rules.specs.State.{State}
 use Rattle.rules.specs.Step.{next_drive}
@@ -152,12 +152,12 @@ lowest (r ∷ rs) = pick r.when (refused r.number) (lowest rs)
 
 -- what an answer says
 abbrev pub ruling_of : Answer → Ruling
-ruling_of (Given reply) = accepted
-ruling_of (Refused n) = refused n
+ruling_of (Ok reply) = accepted
+ruling_of (Err refusal) = refused (number_of refusal)
 
 -- demand 1, said of a word, the unit before and after it, and the answer: the number is the lowest whose condition
 -- holds, a word is refused only under a condition of the tables, every other word is accepted; and "with the unit
 -- unchanged"
 pub record Ruled (s : State) (w : ℕ) (t : State) (a : Answer) : Type 0 where
   pub ruling : ruling_of a ≡ lowest (rows s (apart w))
-  pub unchanged : (n : ℕ) → a ≡ Refused n → t ≡ s
+  pub unchanged : (refusal : Refusal) → a ≡ Err refusal → t ≡ s

@@ -1,9 +1,11 @@
 -- What a slot does to a unit (document 01, "Frame", "Masters", "Registers").
 use Rattle.std.specs.Prelude.{ℕ, ◌+◌, ◌*◌, ◌/◌, ◌%◌, Bool, true, false, not, ◌&&◌, eqb, leb, ltb}
+use Rattle.std.specs.Prelude.{Some, None}
+use Rattle.std.specs.declared.option.Option.{Option}
 use Rattle.line.specs.Choice.{pick, bit_of, ◌▹◌}
 use Rattle.line.specs.Numbers.{code_sending, code_wanted, drive_released, drive_start}
 use Rattle.line.specs.declared.slot.Slot.{Slot}
-use Rattle.line.specs.declared.slot.Slot.TheVariants.{Level, Start, Idle, Stray}
+use Rattle.line.specs.declared.slot.Slot.TheVariants.{Level, Start, Idle}
 use Rattle.place.specs.Frame.{begun_of, with_length}
 use Rattle.place.specs.Set.{frame·byte}
 use Rattle.place.specs.Slaves.{writes_of}
@@ -155,12 +157,12 @@ on_level c bit seen =
 
 -- ---- a slot
 
--- what a slot that is not refused does to a unit; a stray bit is no slot
-abbrev pub on_slot : Core → Slot → Seen → Acted
-on_slot c (Level bit) seen = on_level c bit seen
-on_slot c Start seen = on_start c seen.clear
-on_slot c Idle seen = on_idle c
-on_slot c Stray seen = acted Nothing c
+-- what a slot that is not refused does to a unit; where there is none, nothing
+abbrev pub on_slot : Core → Option Slot → Seen → Acted
+on_slot c (Some (Level bit)) seen = on_level c bit seen
+on_slot c (Some Start) seen = on_start c seen.clear
+on_slot c (Some Idle) seen = on_idle c
+on_slot c None seen = acted Nothing c
 
 -- ---- what the unit drives in the next slot: "0, 1 (released) or 2 (start)"
 

@@ -8,6 +8,7 @@ pub use Rattle.place.specs.Cases.{answered}
 use Rattle.isolation.specs.Runs.{run, answers}
 use Rattle.rules.specs.declared.state.Registers.{Registers}
 use Rattle.rules.specs.State.{State, reset, reset_registers}
+use Rattle.rules.specs.Answers.{number_in}
 use Rattle.rules.specs.Registers.{flg_byte, rcr_byte, write_refusal}
 use Rattle.rules.specs.Machine.{unit}
 
@@ -298,7 +299,7 @@ controls_in upper (suc n) = write 0x6 (upper + n) ∷ controls_in upper n
 abbrev pub listed : ℕ → ℕ → List ℕ
 listed register zero = []
 listed register (suc v) =
-    pick (eqb (write_refusal reset_registers 2 register v) refused_value) (listed register v) (v ∷ listed register v)
+    pick (eqb (number_in (write_refusal reset_registers 2 register v)) refused_value) (listed register v) (v ∷ listed register v)
 
 -- registers in which all is set but what the status byte shows
 abbrev pub busy : Registers

@@ -24,10 +24,11 @@ pub struct Registers {
     pub lor2: u8,
     pub rdr1: u8,
     pub rdr2: u8,
-    // RCR
+    // RCR: two codes of four bits. They are numbers, since the bytes that a host keeps can hold any
     pub marc: u8,
     pub slrc: u8,
-    // the lock, and the master that holds it
+    // the lock, and the master that holds it. These are two, and no Option: the bytes that a host keeps have both, and
+    // give back a state with any holder beside an open lock (`decoded`)
     pub locked: bool,
     pub holder: u16,
 }
@@ -48,8 +49,8 @@ pub struct Seen {
     pub clear: bool,
 }
 
-// What a slot does to the buffers.
-#[derive(Clone, Copy)]
+// What a slot does to the buffers. `Nothing` is one case among the others, as in `place::Event`.
+#[derive(Clone, Copy, Debug, PartialEq, Eq)]
 pub enum Act {
     Nothing,
     // the next byte leaves TBF

@@ -19,10 +19,7 @@ fn end_code(started: u8, whole: bool) -> u8
     requires { started ≤ 8 }
     ensures { result ≡ end_code started whole }
 {
-    if whole {
-        return started + CODE_NORMAL;
-    }
-    started + CODE_ABORTED
+    started + if whole { CODE_NORMAL } else { CODE_ABORTED }
 }
 
 // "Receptions at length accepted": the code with which one starts.
@@ -90,16 +87,12 @@ fn lock_after(mut core: Core, whole: bool) -> Core
 pub(crate) fn request_ended(mut core: Core, whole: bool) -> Acted
     ensures { result ≡ request_ended core whole }
 {
-    let regs = core.regs;
-    if writes(regs.control) {
-        let code = end_code(CODE_SENDING, whole);
-        core.regs.marq = false;
-        core.regs.marc = code;
+    core.regs.marq = false;
+    if writes(core.regs.control) {
+        core.regs.marc = end_code(CODE_SENDING, whole);
         return acting(core, Act::Empty);
     }
-    let code = end_code(CODE_RECEIVING, whole);
-    core.regs.marq = false;
-    core.regs.marc = code;
+    core.regs.marc = end_code(CODE_RECEIVING, whole);
     acting(core, Act::Nothing)
 }
 
@@ -108,8 +101,7 @@ pub(crate) fn request_ended(mut core: Core, whole: bool) -> Acted
 fn sending_ended(mut core: Core, whole: bool) -> Acted
     ensures { result ≡ sending_ended core whole }
 {
-    let code = end_code(CODE_SENDING, whole);
-    core.regs.slrc = code;
+    core.regs.slrc = end_code(CODE_SENDING, whole);
     core.regs.strq = false;
     acting(core, Act::Empty)
 }
@@ -119,9 +111,7 @@ fn sending_ended(mut core: Core, whole: bool) -> Acted
 fn reception_ended(mut core: Core, whole: bool) -> Acted
     ensures { result ≡ reception_ended core whole }
 {
-    let started = reception_code(core.frame);
-    let code = end_code(started, whole);
-    core.regs.slrc = code;
+    core.regs.slrc = end_code(reception_code(core.frame), whole);
     core.regs.slre = false;
     acting(core, Act::Nothing)
 }
@@ -166,10 +156,9 @@ fn slave_ended(place: Place, core: Core, whole: bool) -> Acted
     match place {
         Place::Waiting => acting(core, Act::Nothing),
         Place::In(field, _) => match field {
-            Field::Broadcast => acting(core, Act::Nothing),
-            Field::Master => acting(core, Act::Nothing),
-            Field::Slave => acting(core, Act::Nothing),
-            Field::Control => acting(core, Act::Nothing),
+            Field::Broadcast | Field::Master | Field::Slave | Field::Control => {
+                acting(core, Act::Nothing)
+            }
             Field::Length => length_ended(core),
             Field::Data => data_ended(core, whole),
         },
@@ -182,12 +171,10 @@ fn slave_ended(place: Place, core: Core, whole: bool) -> Acted
 pub(crate) fn ended(core: Core, whole: bool) -> Acted
     ensures { result ≡ ended_of core whole }
 {
-    let frame = core.frame;
-    if frame.leads {
+    if core.frame.leads {
         return request_ended(core, whole);
     }
-    let place = frame.place;
-    slave_ended(place, core, whole)
+    slave_ended(core.frame.place, core, whole)
 }
 
 // The frame has ended, or the unit has done its part.
@@ -195,9 +182,7 @@ pub(crate) fn ended(core: Core, whole: bool) -> Acted
 pub(crate) fn left(mut acted: Acted, frame: Frame) -> Acted
     ensures { result ≡ left_of acted frame }
 {
-    let mut core = acted.core;
-    core.frame = frame;
-    acted.core = core;
+    acted.core.frame = frame;
     acted
 }
 
@@ -206,9 +191,8 @@ pub(crate) fn left(mut acted: Acted, frame: Frame) -> Acted
 pub(crate) fn cut(core: Core) -> Acted
     ensures { result ≡ cut_of core }
 {
-    let frame = core.frame;
-    match frame.place {
+    match core.frame.place {
         Place::Waiting => acting(core, Act::Nothing),
-        Place::In(_, _) => left(ended(core, false), done(frame)),
+        Place::In(_, _) => left(ended(core, false), done(core.frame)),
     }
 }

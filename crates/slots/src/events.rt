@@ -17,10 +17,8 @@ use rules::state::{Act, Acted, Core, Seen};
 fn on_lost(mut core: Core) -> Acted
     ensures { result ≡ on_lost core }
 {
-    let regs = core.regs;
-    if regs.losses < regs.retries {
-        let losses = regs.losses + 1;
-        core.regs.losses = losses;
+    if core.regs.losses < core.regs.retries {
+        core.regs.losses += 1;
         return acting(core, Act::Nothing);
     }
     request_ended(core, false)
@@ -31,9 +29,7 @@ fn on_lost(mut core: Core) -> Acted
 fn on_addressed(mut core: Core) -> Core
     ensures { result ≡ on_addressed core }
 {
-    let frame = core.frame;
-    let regs = core.regs;
-    if frame.leads & writes(regs.control) {
+    if core.frame.leads & writes(core.regs.control) {
         core.regs.marc = CODE_SENDING;
         return core;
     }
@@ -45,8 +41,7 @@ fn on_addressed(mut core: Core) -> Core
 fn with_code(mut core: Core, code: u8) -> Core
     ensures { result ≡ with_code core code }
 {
-    let frame = core.frame;
-    if frame.leads {
+    if core.frame.leads {
         core.regs.marc = code;
         return core;
     }
@@ -59,11 +54,9 @@ fn with_code(mut core: Core, code: u8) -> Core
 fn sending_begun(mut core: Core) -> Core
     ensures { result ≡ sending_begun core }
 {
-    let frame = core.frame;
-    if frame.leads {
-        return core;
+    if !core.frame.leads {
+        core.regs.slrc = CODE_SENDING;
     }
-    core.regs.slrc = CODE_SENDING;
     core
 }
 
@@ -72,9 +65,7 @@ fn sending_begun(mut core: Core) -> Core
 fn length_drawn(mut core: Core, front: u8) -> Acted
     ensures { result ≡ length_drawn core front }
 {
-    let frame = core.frame;
-    let drawn = with_length(frame, front);
-    core.frame = drawn;
+    core.frame = with_length(core.frame, front);
     acting(core, Act::Take)
 }
 
@@ -88,8 +79,7 @@ fn on_control_acked(mut core: Core, seen: Seen) -> Acted
         return length_drawn(sending_begun(core), seen.front);
     }
     if frame.sends {
-        let fixed = with_length(frame, 1);
-        core.frame = fixed;
+        core.frame = with_length(frame, 1);
         return acting(core, Act::Nothing);
     }
     acting(core, Act::Nothing)
@@ -120,9 +110,10 @@ fn other_party(frame: Frame) -> u16
     ensures { result ≡ other_party frame }
 {
     if frame.leads {
-        return frame.slave;
+        frame.slave
+    } else {
+        frame.master
     }
-    frame.master
 }
 
 // "A reception puts three bytes into RBF when length is accepted: other party's address high 8, low 4 with control,
@@ -146,8 +137,7 @@ fn header(frame: Frame) -> Act
 fn with_count(mut core: Core, n: u8) -> Core
     ensures { result ≡ with_count core n }
 {
-    let frame = core.frame;
-    if frame.leads {
+    if core.frame.leads {
         core.regs.rdr1 = n;
         return core;
     }
@@ -159,12 +149,11 @@ fn with_count(mut core: Core, n: u8) -> Core
 fn count(core: Core) -> u8
     ensures { result ≡ count_of core }
 {
-    let frame = core.frame;
-    let regs = core.regs;
-    if frame.leads {
-        return regs.rdr1;
+    if core.frame.leads {
+        core.regs.rdr1
+    } else {
+        core.regs.rdr2
     }
-    regs.rdr2
 }
 
 #[tactic(auto, unfolding(rules::specs::Slots::reception_begun))]
@@ -186,9 +175,7 @@ fn on_length_acked(mut core: Core, seen: Seen) -> Acted
         return byte_drawn(core, seen);
     }
     if frame.sends {
-        let regs = core.regs;
-        let byte = own_byte(regs, frame.control, seen.clear);
-        core.frame.byte = byte;
+        core.frame.byte = own_byte(core.regs, frame.control, seen.clear);
         return acting(core, Act::Nothing);
     }
     reception_begun(core)
@@ -234,13 +221,10 @@ fn on_byte_acked(core: Core, byte: u8, seen: Seen) -> Acted
 fn last_acked(core: Core, byte: u8, whole: bool) -> Acted
     ensures { result ≡ last_acked core byte whole }
 {
-    let frame = core.frame;
-    if frame.sends {
+    if core.frame.sends {
         return ended(core, whole);
     }
-    let after = ended(count_more(core), whole);
-    let rest = after.core;
-    acting(rest, Act::Byte(byte))
+    acting(ended(count_more(core), whole).core, Act::Byte(byte))
 }
 
 // What an event brings about, from the unit before the slot and the frame after it.
@@ -248,8 +232,7 @@ fn last_acked(core: Core, byte: u8, whole: bool) -> Acted
 pub(crate) fn on_event(event: Event, core: Core, next: Frame, seen: Seen) -> Acted
     ensures { result ≡ on_event event core next seen }
 {
-    let frame = core.frame;
-    let byte = (frame.shift % 256) as u8;
+    let byte = (core.frame.shift % 256) as u8;
     let mut moved = core;
     moved.frame = next;
     match event {

@@ -26,9 +26,10 @@ fn limit(long: bool) -> u8
     ensures { result ≡ limit_of long }
 {
     if long {
-        return ATTEMPTS_MODE_1;
+        ATTEMPTS_MODE_1
+    } else {
+        ATTEMPTS_MODE_0
     }
-    ATTEMPTS_MODE_0
 }
 
 // "A start slot always begins a frame": whether the unit takes part as a master, and the mode then.
@@ -37,10 +38,9 @@ fn begun(leads: bool, long: bool) -> Frame
     ensures { result ≡ begun_of leads long }
 {
     let mut frame = none();
-    let most = limit(long);
     frame.place = Place::In(Field::Broadcast, 0);
     frame.leads = leads;
-    frame.limit = most;
+    frame.limit = limit(long);
     frame
 }
 
@@ -50,12 +50,9 @@ fn on_start(core: Core, clear: bool) -> Acted
     ensures { result ≡ on_start core clear }
 {
     let mut after = cut(core);
-    let mut rest = after.core;
-    let regs = rest.regs;
-    let frame = begun(takes_part(regs, clear), regs.long);
-    rest.frame = frame;
-    rest.idle = false;
-    after.core = rest;
+    let regs = after.core.regs;
+    after.core.frame = begun(takes_part(regs, clear), regs.long);
+    after.core.idle = false;
     after
 }
 
@@ -72,23 +69,19 @@ fn on_idle(core: Core) -> Acted
 fn on_level(mut core: Core, bit: bool, seen: Seen) -> Acted
     ensures { result ≡ on_level core bit seen }
 {
-    let regs = core.regs;
-    let view = view(regs, seen.clear);
-    let moved = frame::level(core.frame, bit, view);
-    let next = moved.frame;
-    let event = moved.event;
+    let moved = frame::level(core.frame, bit, view(core.regs, seen.clear));
     core.idle = false;
-    on_event(event, core, next, seen)
+    on_event(moved.event, core, moved.frame, seen)
 }
 
-// What a slot does; a stray bit, which is refused, does nothing.
-pub fn on_slot(core: Core, slot: Slot, seen: Seen) -> Acted
+// What a slot does; where a word with a stray bit, which is refused, says none, nothing happens.
+pub fn on_slot(core: Core, slot: Option<Slot>, seen: Seen) -> Acted
     ensures { result ≡ on_slot core slot seen }
 {
     match slot {
-        Slot::Level(bit) => on_level(core, bit, seen),
-        Slot::Start => on_start(core, seen.clear),
-        Slot::Idle => on_idle(core),
-        Slot::Stray => acting(core, Act::Nothing),
+        Some(Slot::Level(bit)) => on_level(core, bit, seen),
+        Some(Slot::Start) => on_start(core, seen.clear),
+        Some(Slot::Idle) => on_idle(core),
+        None => acting(core, Act::Nothing),
     }
 }

@@ -10,7 +10,7 @@ returns-then-overruled-contested c =
 
 pub returns : goal.returns
 returns c =
-    rw (c.told.ensures, c.at_field-moved.ensures, c.led.ensures, c.clash-overruled.ensures)
+    rw (c.told-moved.ensures, c.at_field-moved.ensures, c.led.ensures, c.clash-overruled.ensures)
     (goes_through c.args.frame c.args.field c.args.n c.args.bit c.args.view
     (rw (← c.clash-overruled.ensures, ← c.contested.ensures)
     c.if-overruled-contested.false))
