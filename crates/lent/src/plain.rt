@@ -8,7 +8,7 @@ use crate::step::{Answered, Lent};
 use line::numbers::DRIVE_RELEASED;
 use moves::shifted;
 use place::{Field, Frame, Place};
-use rules::answer::{Answer, Reply};
+use rules::answer::Reply;
 use rules::state::Core;
 
 // A bit of a field that is shifted in: not the broadcast bit, P or A.
@@ -75,7 +75,7 @@ impl Lent {
     {
         Answered {
             lent: self.took(bit),
-            answer: Answer::Given(Reply::Taken(DRIVE_RELEASED)),
+            answer: Ok(Reply::Taken(DRIVE_RELEASED)),
         }
     }
 
@@ -93,7 +93,7 @@ impl Lent {
         let lent = self.took(bit);
         Answered {
             lent,
-            answer: Answer::Given(Reply::Taken(lent.drive())),
+            answer: Ok(Reply::Taken(lent.drive())),
         }
     }
 }

@@ -1,4 +1,6 @@
 -- The run over bytes that is under way: words that bytes spell, and answers written four bytes at a time.
+use lib.Dec.{eqb}
+use mathlib.Core.Bool.{false}
 use mathlib.Core.Path.{◌≡◌, refl, sym, ap, ◌∙◌}
 use mathlib.Core.List.{List, [], ◌∷◌, ◌++◌, append_assoc}
 use Prim.Native.Nat.{ℕ, ◌+◌, ◌-◌, ◌%◌, ◌≤◌, ◌<◌}
@@ -6,6 +8,9 @@ use native.Mathlib.Omega.{arith}
 use lib.ListN.{length, drop, get_or, take, length-append, length-drop, drop_of_length-le}
 use lib.Seq.{drop-drop, length-take-le}
 use Rattle.std.proofs.lemmas.Slice.{drop-put_mid, take-put_mid}
+use Rattle.answers.specs.Refused.{error_number}
+use Rattle.answers.specs.declared.ListError.{ListError}
+use Rattle.answers.specs.declared.ListError.TheVariants.{ByteCount, ShortList}
 use Rattle.line.proofs.Filled.{Filled, nothing_filled, all_filled}
 use Rattle.line.proofs.Places.{cut}
 use Rattle.isolation.specs.Runs.{run, answers}
@@ -23,6 +28,11 @@ use Rattle.lists.proofs.Called.{taken_whole}
 use Rattle.list_run.specs.Run.{word_at, word_put}
 use Rattle.list_run.proofs.Underway.{run_cons, run_nil, answers_cons, answers_nil, whole_after}
 use Rattle.list_run.proofs.Underway.{one_over, over_nil}
+
+-- a refusal's number is none that says that nothing is refused
+pub error_some : (error : ListError) → eqb (error_number error) 0 ≡ false
+error_some ByteCount = refl
+error_some ShortList = refl
 
 -- the words from a place on: the word there, and those from four bytes further on
 words_cut : (s : List ℕ) (at : ℕ) → at + 4 ≤ length s → words_of (drop at s) ≡ word_at s at ∷ words_of (drop (at + 4) s)

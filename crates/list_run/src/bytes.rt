@@ -2,23 +2,15 @@
 ghost use Rattle.std.specs.Prelude.{◌≡◌, ◌+◌, ◌≤◌, length};
 ghost use Rattle.unit.specs.Unit.{state_of};
 ghost use Rattle.lists.specs.Bytes.{CalledBytes, byte_refusal, state_after, words_of};
-ghost use Rattle.list_run.specs.Run.{RunsSpelled, Whole, unit_left, word_at, word_put};
+ghost use Rattle.list_run.specs.Run.{RunsSpelled, Whole, number_of, unit_left, unit_or, word_at, word_put};
 
-use answers::{answer_word, byte_refusal};
+use answers::{ListError, answer_word, check_bytes};
 use lent::step::Lent;
 use line::numbers::{RBF_BYTES, TBF_BYTES};
-use rules::answer::Answer;
 use unit::step::Unit;
 
 // How many bytes spell a word.
 const WORD_BYTES: usize = 4;
-
-// A unit after a run over bytes, and the number of the refusal, or 0.
-#[derive(Clone, Copy)]
-pub struct RanBytes {
-    pub unit: Unit,
-    pub number: u32,
-}
 
 // The word that starts at a place of a byte list, the lowest byte first.
 fn word_at(bytes: &[u8], at: usize) -> u32
@@ -53,35 +45,29 @@ fn run_spelled(
         let after = lent.step(word_at(words, at), tbf, rbf);
         lent = after.lent;
         // "A refused word in a list does not stop the list": its answer is of kind 15.
-        let Answer::Given(reply) = after.answer else {
+        let Ok(reply) = after.answer else {
             put_word(answers, at, answer_word(after.answer));
             continue;
         };
-        put_word(answers, at, answer_word(Answer::Given(reply)));
+        put_word(answers, at, answer_word(Ok(reply)));
     }
     lent
 }
 
 // The words run from the unit given. The answer to the word at byte at stands at byte at of `answers`; bytes past the
-// last answer keep their contents. The number is 0, or 11 where the bytes are no whole words, or 12 where `answers` is
-// shorter than `words`; then nothing is run and nothing written. Each word is ruled as the tables of refusals say, and
-// the holder of the lock is protected from everybody else's frames.
+// last answer keep their contents. Refused where the bytes are no whole words, or else where `answers` is shorter than
+// `words`; then nothing is run and nothing written. Each word is ruled as the tables of refusals say, and the holder of
+// the lock is protected from everybody else's frames.
 #[tactic(auto, unfolding(crate::specs::Run::unit_left, lists::specs::Bytes::state_after, lists::specs::Bytes::bytes_after))]
-pub fn run_bytes(from: Unit, words: &[u8], answers: &mut [u8]) -> RanBytes
-    ensures called { CalledBytes (state_of from) words.now answers.old result.number
+pub fn run_bytes(from: Unit, words: &[u8], answers: &mut [u8]) -> Result<Unit, ListError>
+    ensures called { CalledBytes (state_of from) words.now answers.old (number_of result)
         answers.new }
-    ensures left { state_of result.unit ≡ state_after (state_of from) words.now answers.old }
-    ensures whole { result.unit ≡ unit_left result.number from (words_of words.now) }
+    ensures left { state_of (unit_or from result) ≡ state_after (state_of from) words.now answers.old }
+    ensures whole { unit_or from result ≡ unit_left (number_of result) from (words_of words.now) }
 {
-    let number = byte_refusal(words.len(), answers.len());
-    if number != 0 {
-        return RanBytes { unit: from, number };
-    }
+    check_bytes(words.len(), answers.len())?;
     let mut tbf = from.tbf.bytes;
     let mut rbf = from.rbf.bytes;
     let left = run_spelled(from.lent(), words, answers, &mut tbf, &mut rbf);
-    RanBytes {
-        unit: Unit::from_lent(left, tbf, rbf),
-        number,
-    }
+    Ok(Unit::from_lent(left, tbf, rbf))
 }

@@ -2,26 +2,12 @@
 ghost use Rattle.std.specs.Prelude.{◌≡◌, ◌≤◌, length};
 ghost use Rattle.unit.specs.Unit.{state_of};
 ghost use Rattle.lists.specs.Run.{Called};
-ghost use Rattle.list_run.specs.Run.{RunsLent, Whole, number_of, unit_left};
+ghost use Rattle.list_run.specs.Run.{RunsLent, Whole, number_of, unit_left, unit_or};
 
-use answers::answer_word;
+use answers::{ListError, answer_word};
 use lent::step::Lent;
 use line::numbers::{RBF_BYTES, TBF_BYTES};
-use rules::answer::Answer;
 use unit::step::Unit;
-
-// How a run ends: every word has its answer, or the answer list is shorter than the word list.
-#[derive(Clone, Copy)]
-pub enum Outcome {
-    Ran,
-    ShortList,
-}
-
-#[derive(Clone, Copy)]
-pub struct Finished {
-    pub unit: Unit,
-    pub outcome: Outcome,
-}
 
 // The words run in order by a unit whose buffers are lent; what stands past the last answer is kept.
 fn run_lent(
@@ -40,11 +26,11 @@ fn run_lent(
         let after = lent.step(*word, tbf, rbf);
         lent = after.lent;
         // "A refused word in a list does not stop the list": its answer is of kind 15.
-        let Answer::Given(reply) = after.answer else {
+        let Ok(reply) = after.answer else {
             answers[i] = answer_word(after.answer);
             continue;
         };
-        answers[i] = answer_word(Answer::Given(reply));
+        answers[i] = answer_word(Ok(reply));
     }
     lent
 }
@@ -53,23 +39,17 @@ fn run_lent(
 // their contents. Where the answer list is shorter than the word list, nothing is run and nothing written. Each word is
 // ruled as the tables of refusals say, a refused one with the unit unchanged. The holder of the lock is protected from
 // everybody else's frames, in the unit that is left and in the answers.
-#[tactic(auto, unfolding(crate::specs::Run::number_of, crate::specs::Run::unit_left, lists::specs::Run::list_refusal, lists::specs::Run::unit_after, lists::specs::Run::answers_after))]
-pub fn run(from: Unit, words: &[u32], answers: &mut [u32]) -> Finished
-    ensures called { Called (state_of from) words.now answers.old (number_of result.outcome)
-        (state_of result.unit) answers.new }
-    ensures whole { result.unit ≡ unit_left (number_of result.outcome) from words.now }
+#[tactic(auto, unfolding(crate::specs::Run::unit_left, lists::specs::Run::list_refusal, lists::specs::Run::unit_after, lists::specs::Run::answers_after))]
+pub fn run(from: Unit, words: &[u32], answers: &mut [u32]) -> Result<Unit, ListError>
+    ensures called { Called (state_of from) words.now answers.old (number_of result)
+        (state_of (unit_or from result)) answers.new }
+    ensures whole { unit_or from result ≡ unit_left (number_of result) from words.now }
 {
     if answers.len() < words.len() {
-        return Finished {
-            unit: from,
-            outcome: Outcome::ShortList,
-        };
+        return Err(ListError::ShortList);
     }
     let mut tbf = from.tbf.bytes;
     let mut rbf = from.rbf.bytes;
     let left = run_lent(from.lent(), words, answers, &mut tbf, &mut rbf);
-    Finished {
-        unit: Unit::from_lent(left, tbf, rbf),
-        outcome: Outcome::Ran,
-    }
+    Ok(Unit::from_lent(left, tbf, rbf))
 }

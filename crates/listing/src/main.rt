@@ -36,7 +36,8 @@ fn listed(input: &[u8], text: &mut [u8]) -> usize
 {
     let mut answers = [0u8; MOST_BYTES];
     let whole = whole_words(input.len());
-    run_bytes(Unit::reset(), &input[0..whole], &mut answers);
+    // Never refused: the words are whole, and there is room for their answers.
+    let _ = run_bytes(Unit::reset(), &input[0..whole], &mut answers);
     listing(input, &answers, text)
 }
 

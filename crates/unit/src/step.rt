@@ -1,10 +1,10 @@
 // A unit by value: a reset one, and one word.
-ghost use Rattle.std.specs.Prelude.{ℕ, ◌≡◌};
+ghost use Rattle.std.specs.Prelude.{◌≡◌};
 ghost use Rattle.unit.specs.Unit.{Circling, lent_of, reset_unit, state_of, unit_by, unit_in};
 ghost use Rattle.rules.specs.Refusals.{Ruled};
 ghost use Rattle.rules.specs.State.{reset};
 ghost use Rattle.rules.specs.Step.{answer_of, step_of};
-ghost use Rattle.rules.specs.declared.answer.Answer.TheVariants.{Refused};
+ghost use Rattle.rules.specs.declared.answer.Refusal.{Refusal};
 
 use crate::buffers::{Buffer, Rbf, Tbf};
 use lent::step::Lent;
@@ -77,7 +77,7 @@ impl Unit {
         ensures refusals { Ruled (state_of self) word (state_of result.unit) result.answer }
         ensures circles { Circling self word result.unit }
         ensures whole { result.unit ≡ unit_by self word }
-        ensures unchanged { (n : ℕ) → result.answer ≡ Refused n → result.unit ≡ self }
+        ensures unchanged { (refusal : Refusal) → result.answer ≡ Err refusal → result.unit ≡ self }
     {
         let mut tbf = self.tbf.bytes;
         let mut rbf = self.rbf.bytes;

@@ -65,16 +65,14 @@ fn unlisted() -> Listed {
 // A list goes to the unit: each answer is to be the one that was given to the word by itself, and places past the last
 // answer are to keep their 0.
 fn compared(listed: Listed, words: &[u32], said: [u32; LIST_WORDS]) -> Listed {
-    let unit = listed.unit;
     let mut answers = [0u32; LIST_WORDS];
-    let finished = run_list(unit, words, &mut answers);
-    let next = finished.unit;
+    let unit = run_list(listed.unit, words, &mut answers).unwrap_or(listed.unit);
     let mut wrong = listed.wrong;
     for i in 0..LIST_WORDS {
         wrong = wrapping_add_u64(wrong, (answers[i] != said[i]) as u64);
     }
     Listed {
-        unit: next,
+        unit,
         words: wrapping_add_u64(listed.words, words.len() as u64),
         wrong,
     }

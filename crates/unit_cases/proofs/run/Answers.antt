@@ -1,4 +1,4 @@
-use Rattle.std.proofs.Common.{◌-◌, arith, length-take}
+use Rattle.std.proofs.Common.{arith, length-take}
 use Rattle.unit_cases.proofs.run.Goals as goal
 
 pub slice_bounds-compared-end : goal.slice_bounds-compared-end

@@ -19,7 +19,7 @@ pub loop-at-preserved : goal.loop-at-preserved
 loop-at-preserved c =
     rw c.put_word-in-loop-at.ensures
     (one_spelled_in c.loop-at.invariant c.loop-at-test.true c.word_at.ensures c.step-after.ensures _
-    (c.answer_word-in-loop-at.ensures ∙ sym (ap word_of c.in-Given.is)))
+    (c.answer_word-in-loop-at.ensures ∙ sym (ap word_of c.in-Ok.is)))
 
 -- after the last word there is no further place
 pub returns-in_default : goal.returns-in_default
@@ -30,12 +30,12 @@ returns-in_default c =
     c.answer_word.ensures))
     (omega arith)
 
-pub returns-in-Given : goal.returns-in-Given
-returns-in-Given c =
+pub returns-in-Ok : goal.returns-in-Ok
+returns-in-Ok c =
     all_spelled_in {at = c.loop-at.at + 4}
     (rw c.put_word-in-loop-at.ensures
     (one_spelled_in c.loop-at.invariant c.loop-at-test.true c.word_at.ensures c.step-after.ensures _
-    (c.answer_word-in-loop-at.ensures ∙ sym (ap word_of c.in-Given.is))))
+    (c.answer_word-in-loop-at.ensures ∙ sym (ap word_of c.in-Ok.is))))
     (omega arith)
 
 pub returns : goal.returns

@@ -5,11 +5,11 @@ use Rattle.rules.proofs.Protects.{holds}
 use Rattle.unit.specs.Unit.{state_of}
 use Rattle.lists.specs.Run.{answers_after, list_refusal, unit_after}
 use Rattle.lists.proofs.Rulings.{listed_ruled}
-use Rattle.list_run.specs.Run.{number_of, unit_left}
+use Rattle.list_run.specs.Run.{unit_left}
 use Rattle.list_run.proofs.run.run.Goals as goal
 
 pub returns-then-answers-words-clause-called : goal.returns-then-answers-words-clause-called
-unfolding number_of unit_left list_refusal unit_after answers_after
+unfolding unit_left list_refusal unit_after answers_after
 returns-then-answers-words-clause-called c =
     let short = lt-ltb _ _ c.if-answers-words.true in
     record {
@@ -21,7 +21,7 @@ returns-then-answers-words-clause-called c =
     }
 
 pub returns-clause-called : goal.returns-clause-called
-unfolding number_of unit_left list_refusal unit_after answers_after
+unfolding unit_left list_refusal unit_after answers_after
 returns-clause-called c =
     let room = le-ltb _ _ c.if-answers-words.false in
     let ran = rw c.lent.ensures at c.run_lent-left.ensures in

@@ -11,7 +11,7 @@ loop-i-preserved-in_default c =
 pub loop-i-preserved : goal.loop-i-preserved
 loop-i-preserved c =
     one_run_in c.loop-i.invariant c.loop-i-test.true c.requires.room
-    c.step-after.ensures _ (c.answer_word-in-loop-i.ensures ∙ sym (ap word_of c.in-Given.is))
+    c.step-after.ensures _ (c.answer_word-in-loop-i.ensures ∙ sym (ap word_of c.in-Ok.is))
 
 pub returns : goal.returns
 returns c =

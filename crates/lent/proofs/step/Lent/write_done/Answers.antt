@@ -1,7 +1,7 @@
 use borrow.Author.Tests.{eq-eqb, ne_eqb}
 use mathlib.Core.Path.{refl, ap, ◌∙◌}
-use Rattle.lent.proofs.Joins.{done_other, done_reset, done_tbf}
 use lib.ListN.{length}
+use Rattle.lent.proofs.Joins.{done_other, done_reset, done_tbf}
 use Rattle.lent.specs.Both.{loan_in, written_in}
 use Rattle.circles.specs.Circle.{Buffer}
 use Rattle.lent.proofs.Changed.{filled_state, reset_state}
@@ -28,7 +28,7 @@ returns-then-register-v c = (
 pub returns : goal.returns
 returns c = (
   refl,
-  λ r full. rw (c.done-2.ensures, c.with_regs-next.ensures, c.write.ensures)
+  λ r full. rw (c.done-2.ensures, c.write.ensures)
       (done_other (loan_in c.args.self c.args.tbf.now r) c.args.register c.args.v (ne_eqb _ _
       c.if-register-eq-REG_TBF.false) c.if-register-v.false),
 )
