@@ -2,7 +2,7 @@
 use mathlib.Core.Path.{◌≡◌, refl, sym, ap, ◌∙◌}
 use mathlib.Core.List.{List, [], ◌∷◌, ◌++◌, append_assoc, append-nil}
 use mathlib.Core.Logic.{⊎_elim}
-use Prim.Native.Nat.{ℕ, zero, suc, ◌+◌, ◌-◌, ◌≤◌, ◌<◌, min}
+use Prim.Native.Nat.{ℕ, zero, suc, ◌+◌, ◌-◌, ◌≤◌, min}
 use native.Mathlib.Omega.{arith}
 use borrow.Author.Tests.{lt-ltb, le-ltb}
 use lib.ListN.{length, take, drop, get_or, set, replicate, length-append, length-drop, length-replicate}
@@ -13,9 +13,8 @@ use borrow.Rule.Slice.PartMut.{put_mid}
 use Rattle.line.specs.Choice.{bit_of}
 use Rattle.line.specs.Numbers.{rbf_bytes, tbf_bytes}
 use Rattle.line.proofs.Either.{below_or_not, pick_same}
-use Rattle.line.proofs.Filled.{Filled, nothing_filled, one_filled, all_filled}
 use Rattle.line.proofs.Places.{cut}
-use Rattle.circles.proofs.Circle.{held_most, items_length}
+use Rattle.circles.proofs.Circle.{held_most}
 use Rattle.circles.proofs.Places.{list_length}
 use Rattle.circles.specs.Circle.{buffer, circle_of, held_of, items, start_of, wrap}
 use Rattle.circles.specs.declared.Span.{Span}
@@ -28,26 +27,6 @@ use Rattle.keeping.specs.Encode.{Fits, buffer_bytes, encode, frame_bytes, regist
 use Rattle.keeping.specs.Layout.{state_bytes}
 use Rattle.keeping.proofs.Again.{buffer_length, decoded}
 
--- ---- a lent list that is written whole
-
--- so far: i places of `first` are written over
-pub record Filling (whole first now rest : List ℕ) (i : ℕ) : Type 0 where
-  pub filled : Filled whole first now rest i
-  pub within : i ≤ length first
-
-pub none_put : (whole first rest : List ℕ) → rest ≡ whole → Filling whole first first rest 0
-none_put whole first rest e = rw e (record { filled = nothing_filled _ _; within = omega arith })
-
-pub one_put : {whole first now rest rest' : List ℕ} {i : ℕ} (v : ℕ) → Filling whole first now rest i
-    → i < length first → rest ≡ v ∷ rest' → Filling whole first (set now i v) rest' (i + 1)
-one_put v d h e =
-    record { filled = one_filled v (rw e at d.filled) (omega (arith, d.filled.long)); within = omega arith }
-
-pub all_put : {whole first now rest : List ℕ} {i : ℕ} → Filling whole first now rest i → length first ≤ i → rest ≡ []
-    → now ≡ whole
-all_put {whole} {first} {now} {rest} {i} d h e =
-    all_filled (rw e at d.filled) ∙ rw (drop_of_length-le first h) (append-nil whole)
-
 -- ---- parts of a list, one behind the other
 
 -- a part lent behind those that are written, and given back
@@ -57,33 +36,20 @@ placed done old part n m e h = rw (take_at done old n e, drop_at done old n e, a
 
 -- ---- circles
 
-pub items_nil : (n : ℕ) (bytes : List ℕ) (f : ℕ) → items n bytes f 0 ≡ []
+items_nil : (n : ℕ) (bytes : List ℕ) (f : ℕ) → items n bytes f 0 ≡ []
 unfolding items
 items_nil n bytes f = refl
 
-pub items_next : (n : ℕ) (bytes : List ℕ) (f k k' : ℕ) → k ≡ suc k'
+items_next : (n : ℕ) (bytes : List ℕ) (f k k' : ℕ) → k ≡ suc k'
     → items n bytes f k ≡ get_or bytes f 0 ∷ items n bytes (wrap n (f + 1)) k'
 unfolding items
 items_next n bytes f k k' e = rw e
-
-pub zeros_next : (k k' : ℕ) → k ≡ suc k' → replicate {A = ℕ} k 0 ≡ 0 ∷ replicate k' 0
-zeros_next k k' e = rw e
-
-pub zeros_all : (n : ℕ) → replicate {A = ℕ} (n - 0) 0 ≡ replicate n 0
-zeros_all n = let e : n - 0 ≡ n = omega arith in rw e
-
--- none is left
-pub items_none : (n : ℕ) (bytes : List ℕ) (f k : ℕ) → k ≡ 0 → items n bytes f k ≡ []
-items_none n bytes f k e = rw e (items_nil n bytes f)
-
-pub zeros_none : (k : ℕ) → k ≡ 0 → replicate {A = ℕ} k 0 ≡ []
-zeros_none k e = rw e
 
 held_min : (n k : ℕ) → held_of n k ≡ min n k
 held_min n k = ⊎_elim (λ h. rw (lt-ltb k n h) (omega arith)) (λ h. rw (le-ltb k n h) (omega arith)) (below_or_not k n)
 
 -- a circle is a list as far as it does not go past its last place
-pub straight : (n : ℕ) (bytes : List ℕ) → length bytes ≡ n → (k f : ℕ) → f + k ≤ n
+straight : (n : ℕ) (bytes : List ℕ) → length bytes ≡ n → (k f : ℕ) → f + k ≤ n
     → items n bytes f k ≡ take k (drop f bytes)
 straight n bytes l zero f h = items_nil n bytes f
 straight n bytes l (suc k) f h =
@@ -100,60 +66,42 @@ circle_most n bytes span = rw (list_length n (buffer bytes span)) (held_most n s
 -- ---- a buffer's bytes
 
 -- what a copy of all but the first byte holds, with a span that begins at place 0
-pub buffer_read : (n : ℕ) (l bytes : List ℕ) (span : Span) → bytes ≡ take (length l - 1) (drop 1 l)
-    → length l ≡ n + 1 → span.first ≡ 0 → span.count ≡ get_or l 0 0 → circle_of n bytes span ≡ buffer_in n l
+pub buffer_read : (n : ℕ) (l bytes : List ℕ) → bytes ≡ take (length l - 1) (drop 1 l) → length l ≡ n + 1
+    → circle_of n bytes (record { first = 0; count = get_or l 0 0 }) ≡ buffer_in n l
 unfolding circle_of buffer_in
-buffer_read n l bytes span e size first count =
+buffer_read n l bytes e size =
     let all : take (length l - 1) (drop 1 l) ≡ drop 1 l
     = take_all (length l - 1) (drop 1 l) (omega (arith, length-drop 1 l)) in
-    let begins : start_of n span.first ≡ 0 = ap (start_of n) first ∙ pick_same (ltb 0 n) 0 in
-    rw (begins, e, all, count)
+    let begins : start_of n 0 ≡ 0 = pick_same (ltb 0 n) 0 in
+    rw (begins, e, all)
     (straight n (drop 1 l) (omega (arith, length-drop 1 l)) (held_of n (get_or l 0 0)) 0
     (omega (arith, held_most n (get_or l 0 0)))
     ∙ ap (λ (k : ℕ). take k (drop 1 l)) (held_min n (get_or l 0 0)))
 
--- a buffer whose count, bytes and zeros are known
-buffer_is : (room count : ℕ) (l U Z : List ℕ) → l ≡ U → length U ≡ count → Z ≡ replicate {A = ℕ} (room - count) 0
-    → count ∷ (U ++ Z) ≡ buffer_bytes room l
+-- the parts of a buffer's bytes, lent and given back one after the other: the count, the bytes, then the zeros
+pub buffer_put : (room count k m : ℕ) (t l U Z : List ℕ) → length t ≡ room + 1 → U ≡ l → length l ≡ count
+    → count ≤ room → k ≡ count → m ≡ length (put_mid 1 k (set t 0 count) U) - (count + 1)
+    → Z ≡ replicate {A = ℕ} (length (take m (drop (count + 1) (put_mid 1 k (set t 0 count) U)))) 0
+    → put_mid (count + 1) m (put_mid 1 k (set t 0 count) U) Z ≡ buffer_bytes room l
 unfolding buffer_bytes
-buffer_is room count l U Z e long zeros = rw (e, long, zeros)
-
--- the parts of a circle's bytes, lent and given back one after the other: the bytes, the zeros, then the count
-pub circle_put : (room count k m : ℕ) (t U Z bytes : List ℕ) (span : Span) → length t ≡ room + 1 → k ≡ count
-    → count ≡ held_of room span.count → (place : ℕ) → place ≡ start_of room span.first
-    → U ≡ items room bytes place (length (take k (drop 1 t))) → m ≡ length (put_mid 1 k t U) - (count + 1)
-    → Z ≡ replicate {A = ℕ} (length (take m (drop (count + 1) (put_mid 1 k t U)))) 0
-    → set (put_mid (count + 1) m (put_mid 1 k t U) Z) 0 count ≡ buffer_bytes room (circle_of room bytes span)
-unfolding circle_of
-circle_put room count k m [] U Z bytes span size same held place begins eU em eZ =
-    absurd (let b : ⊥ = omega arith in b)
-circle_put room count k m (x ∷ xs) U Z bytes span size same held place begins eU em eZ =
-    let most : count ≤ length xs = omega (arith, held_most room span.count) in
-    let U-is : U ≡ items room bytes place count
-    = eU ∙ ap (items room bytes place) (ap (λ (n : ℕ). length (take n xs)) same ∙ length-take-le count xs most) in
-    let long : length U ≡ count = ap length U-is ∙ items_length room bytes count place in
+buffer_put room count k m [] l U Z size e held most same left zeros = absurd (let b : ⊥ = omega arith in b)
+buffer_put room count k m (x ∷ xs) l U Z size e held most same left zeros =
     let rest = drop count xs in
-    let left : length rest ≡ room - count = omega (arith, length-drop count xs) in
-    let first : put_mid 1 k (x ∷ xs) U ≡ (x ∷ U) ++ rest = ap (λ (n : ℕ). x ∷ (U ++ drop n xs)) same in
-    let front : length (x ∷ U) ≡ count + 1 = omega (arith, long) in
-    let zeros : m ≡ room - count = omega (arith, ap length first, length-append (x ∷ U) rest) in
-    let behind : drop (count + 1) (put_mid 1 k (x ∷ xs) U) ≡ rest
-    = ap (drop (count + 1)) first ∙ drop_at (x ∷ U) rest (count + 1) front in
-    let size-Z : length (take m (drop (count + 1) (put_mid 1 k (x ∷ xs) U))) ≡ room - count
-    = ap (λ (l : List ℕ). length (take m l)) behind ∙ length-take-le m rest (omega arith) ∙ zeros in
-    let Z-is : Z ≡ replicate {A = ℕ} (room - count) 0 = eZ ∙ ap (λ (n : ℕ). replicate {A = ℕ} n 0) size-Z in
-    let long-Z : length Z ≡ m = ap length Z-is ∙ length-replicate {A = ℕ} (room - count) 0 ∙ sym zeros in
+    let first : put_mid 1 k (count ∷ xs) U ≡ (count ∷ l) ++ rest
+    = rw e (ap (λ (n : ℕ). count ∷ (l ++ drop n xs)) same) in
+    let front : length (count ∷ l) ≡ count + 1 = omega (arith, held) in
+    let room-left : length rest ≡ room - count = omega (arith, length-drop count xs) in
+    let free : m ≡ room - count = left ∙ omega (arith, ap length first, length-append (count ∷ l) rest) in
+    let behind : drop (count + 1) (put_mid 1 k (count ∷ xs) U) ≡ rest
+    = ap (drop (count + 1)) first ∙ drop_at (count ∷ l) rest (count + 1) front in
+    let size-Z : length (take m (drop (count + 1) (put_mid 1 k (count ∷ xs) U))) ≡ room - count
+    = ap (λ (r : List ℕ). length (take m r)) behind ∙ length-take-le m rest (omega arith) ∙ free in
+    let Z-is : Z ≡ replicate {A = ℕ} (room - count) 0
+    = zeros ∙ ap (λ (n : ℕ). replicate {A = ℕ} n 0) size-Z in
+    let long-Z : length Z ≡ m = ap length Z-is ∙ length-replicate {A = ℕ} (room - count) 0 ∙ sym free in
     let none : drop m rest ≡ [] = drop_of_length-le rest {i = m} (omega arith) in
-    let whole : put_mid (count + 1) m (put_mid 1 k (x ∷ xs) U) Z ≡ (x ∷ U) ++ Z
-    = ap (λ (l : List ℕ). put_mid (count + 1) m l Z) first ∙ placed (x ∷ U) rest Z (count + 1) m front long-Z
-    ∙ ap (λ (l : List ℕ). ((x ∷ U) ++ Z) ++ l) none ∙ append-nil ((x ∷ U) ++ Z) in
-    let l-is : items room bytes (start_of room span.first) (held_of room span.count) ≡ U
-    = sym (U-is ∙ rw (begins, held)) in
-    ap (λ (l : List ℕ). set l 0 count) whole ∙ buffer_is room count _ U Z l-is long Z-is
-
-pub same_room : (n m : ℕ) (bytes : List ℕ) (span : Span) → n ≡ m
-    → buffer_bytes n (circle_of n bytes span) ≡ buffer_bytes m (circle_of m bytes span)
-same_room n m bytes span e = ap (λ (k : ℕ). buffer_bytes k (circle_of k bytes span)) e
+    ap (λ (r : List ℕ). put_mid (count + 1) m r Z) first ∙ placed (count ∷ l) rest Z (count + 1) m front long-Z
+    ∙ ap (λ (r : List ℕ). ((count ∷ l) ++ Z) ++ r) none ∙ append-nil ((count ∷ l) ++ Z) ∙ rw (Z-is, held)
 
 -- ---- the parts of a state, lent and given back one after the other
 

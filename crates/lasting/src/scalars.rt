@@ -11,22 +11,16 @@ use place::{Field, Frame, Place};
 use rules::state::Registers;
 
 // A number of 16 bits takes two bytes, the lower first.
-fn low_byte(n: u16) -> u8
-    ensures { result ≡ low n }
+fn bytes(n: u16) -> [u8; 2]
+    ensures { result ≡ low n ∷ high n ∷ [] }
 {
-    (n % 256) as u8
-}
-
-fn high_byte(n: u16) -> u8
-    ensures { result ≡ high n }
-{
-    (n / 256) as u8
+    n.to_le_bytes()
 }
 
 fn pair(low: u8, high: u8) -> u16
     ensures { result ≡ joined low high }
 {
-    low as u16 + high as u16 * 256
+    u16::from_le_bytes([low, high])
 }
 
 // Every byte is a flag: its lowest bit.
@@ -36,29 +30,27 @@ pub(crate) fn flag(byte: u8) -> bool
     byte % 2 == 1
 }
 
-fn flag_byte(flag: bool) -> u8
-    ensures { result ≡ bit_of flag }
-{
-    flag as u8
-}
-
 #[tactic(auto, unfolding(keeping::specs::Encode::register_bytes))]
 pub(crate) fn registers_bytes(r: Registers) -> [u8; REGISTERS_END]
-    ensures { (result ≡ register_bytes r) × RegistersFit r }
+    ensures value { result ≡ register_bytes r }
+    ensures fit { RegistersFit r }
 {
+    let own = bytes(r.own);
+    let slave = bytes(r.slave);
+    let holder = bytes(r.holder);
     [
-        low_byte(r.own),
-        high_byte(r.own),
-        flag_byte(r.enabled),
-        flag_byte(r.long),
-        low_byte(r.slave),
-        high_byte(r.slave),
-        flag_byte(r.bit),
+        own[0],
+        own[1],
+        u8::from(r.enabled),
+        u8::from(r.long),
+        slave[0],
+        slave[1],
+        u8::from(r.bit),
         r.retries,
         r.control,
-        flag_byte(r.marq),
-        flag_byte(r.strq),
-        flag_byte(r.slre),
+        u8::from(r.marq),
+        u8::from(r.strq),
+        u8::from(r.slre),
         r.losses,
         r.lor1,
         r.lor2,
@@ -66,9 +58,9 @@ pub(crate) fn registers_bytes(r: Registers) -> [u8; REGISTERS_END]
         r.rdr2,
         r.marc,
         r.slrc,
-        flag_byte(r.locked),
-        low_byte(r.holder),
-        high_byte(r.holder),
+        u8::from(r.locked),
+        holder[0],
+        holder[1],
     ]
 }
 
@@ -100,37 +92,19 @@ pub(crate) fn registers_from(b: &[u8]) -> Registers
     }
 }
 
-#[tactic(auto, unfolding(keeping::specs::Encode::place_number))]
-fn field_number(field: Field) -> u8
-    ensures { result ≡ place_number (Place.In field 0) }
-{
-    match field {
-        Field::Broadcast => 1,
-        Field::Master => 2,
-        Field::Slave => 3,
-        Field::Control => 4,
-        Field::Length => 5,
-        Field::Data => 6,
-    }
-}
-
-#[tactic(auto, unfolding(keeping::specs::Encode::place_number))]
-fn place_number(place: Place) -> u8
-    ensures { result ≡ place_number place }
+// Its number, and its count in the field.
+#[tactic(auto, unfolding(keeping::specs::Encode::place_number, keeping::specs::Encode::place_count))]
+fn place_bytes(place: Place) -> [u8; 2]
+    ensures { result ≡ place_number place ∷ place_count place ∷ [] }
 {
     match place {
-        Place::Waiting => 0,
-        Place::In(field, _) => field_number(field),
-    }
-}
-
-#[tactic(auto, unfolding(keeping::specs::Encode::place_count))]
-fn place_count(place: Place) -> u8
-    ensures { result ≡ place_count place }
-{
-    match place {
-        Place::Waiting => 0,
-        Place::In(_, n) => n,
+        Place::Waiting => [0, 0],
+        Place::In(Field::Broadcast, n) => [1, n],
+        Place::In(Field::Master, n) => [2, n],
+        Place::In(Field::Slave, n) => [3, n],
+        Place::In(Field::Control, n) => [4, n],
+        Place::In(Field::Length, n) => [5, n],
+        Place::In(Field::Data, n) => [6, n],
     }
 }
 
@@ -152,32 +126,38 @@ fn place_of(number: u8, n: u8) -> Place
 
 #[tactic(auto, unfolding(keeping::specs::Encode::frame_bytes))]
 pub(crate) fn frame_bytes(f: Frame, idle: bool) -> [u8; FRAME_BYTES]
-    ensures { (result ≡ frame_bytes f ++ bit_of idle ∷ []) × FrameFits f }
+    ensures value { result ≡ frame_bytes f ++ bit_of idle ∷ [] }
+    ensures fit { FrameFits f }
 {
-    let place = f.place;
+    let place = place_bytes(f.place);
+    let shift = bytes(f.shift);
+    let master = bytes(f.master);
+    let slave = bytes(f.slave);
+    let length = bytes(f.length);
+    let acked = bytes(f.acked);
     [
-        place_number(place),
-        place_count(place),
-        low_byte(f.shift),
-        high_byte(f.shift),
-        flag_byte(f.broadcast),
-        low_byte(f.master),
-        high_byte(f.master),
-        flag_byte(f.sound),
-        low_byte(f.slave),
-        high_byte(f.slave),
+        place[0],
+        place[1],
+        shift[0],
+        shift[1],
+        u8::from(f.broadcast),
+        master[0],
+        master[1],
+        u8::from(f.sound),
+        slave[0],
+        slave[1],
         f.control,
-        low_byte(f.length),
-        high_byte(f.length),
+        length[0],
+        length[1],
         f.attempts,
-        low_byte(f.acked),
-        high_byte(f.acked),
-        flag_byte(f.ack),
-        flag_byte(f.leads),
-        flag_byte(f.sends),
+        acked[0],
+        acked[1],
+        u8::from(f.ack),
+        u8::from(f.leads),
+        u8::from(f.sends),
         f.byte,
         f.limit,
-        flag_byte(idle),
+        u8::from(idle),
     ]
 }
 
@@ -186,9 +166,8 @@ pub(crate) fn frame_from(b: &[u8]) -> Frame
     requires { length b.now ≡ frame_end - registers_end }
     ensures { result ≡ frame_in b.now }
 {
-    let place = place_of(b[0], b[1]);
     Frame {
-        place,
+        place: place_of(b[0], b[1]),
         shift: pair(b[2], b[3]),
         broadcast: flag(b[4]),
         master: pair(b[5], b[6]),

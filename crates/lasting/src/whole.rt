@@ -5,7 +5,7 @@ ghost use Rattle.keeping.specs.Calls.{Keeps};
 ghost use Rattle.keeping.specs.Decode.{decode};
 ghost use Rattle.keeping.specs.Layout.{state_bytes};
 
-use crate::buffers::{copy, put_rbf, put_tbf, rbf_from, tbf_from};
+use crate::buffers::{buffer_from, put_buffer};
 use crate::layout::{FRAME_END, IDLE_PLACE, REGISTERS_END, STATE_BYTES, TBF_END};
 use crate::scalars::{flag, frame_bytes, frame_from, registers_bytes, registers_from};
 use rules::state::Core;
@@ -16,10 +16,11 @@ fn core_from(state: &[u8]) -> Core
     requires { length state.now ≡ state_bytes }
     ensures { result ≡ (decode state.now).core }
 {
-    let regs = registers_from(&state[0..REGISTERS_END]);
-    let frame = frame_from(&state[REGISTERS_END..FRAME_END]);
-    let idle = flag(state[IDLE_PLACE]);
-    Core { regs, frame, idle }
+    Core {
+        regs: registers_from(&state[0..REGISTERS_END]),
+        frame: frame_from(&state[REGISTERS_END..FRAME_END]),
+        idle: flag(state[IDLE_PLACE]),
+    }
 }
 
 // The unit that bytes keep.
@@ -28,10 +29,11 @@ pub(crate) fn unit_from(state: &[u8]) -> Unit
     requires { length state.now ≡ state_bytes }
     ensures { state_of result ≡ decode state.now }
 {
-    let core = core_from(state);
-    let tbf = tbf_from(&state[FRAME_END..TBF_END]);
-    let rbf = rbf_from(&state[TBF_END..STATE_BYTES]);
-    Unit { core, tbf, rbf }
+    Unit {
+        core: core_from(state),
+        tbf: buffer_from(&state[FRAME_END..TBF_END]),
+        rbf: buffer_from(&state[TBF_END..STATE_BYTES]),
+    }
 }
 
 // The bytes that keep a unit.
@@ -39,11 +41,10 @@ pub(crate) fn put_unit(state: &mut [u8], unit: Unit)
     requires { length state.old ≡ state_bytes }
     ensures { Keeps (state_of unit) state.new }
 {
-    let core = unit.core;
-    let regs = registers_bytes(core.regs);
-    let frame = frame_bytes(core.frame, core.idle);
-    copy(&mut state[0..REGISTERS_END], &regs);
-    copy(&mut state[REGISTERS_END..FRAME_END], &frame);
-    put_tbf(&mut state[FRAME_END..TBF_END], unit.tbf);
-    put_rbf(&mut state[TBF_END..STATE_BYTES], unit.rbf);
+    let regs = registers_bytes(unit.core.regs);
+    let frame = frame_bytes(unit.core.frame, unit.core.idle);
+    state[0..REGISTERS_END].copy_from_slice(&regs);
+    state[REGISTERS_END..FRAME_END].copy_from_slice(&frame);
+    put_buffer(&mut state[FRAME_END..TBF_END], unit.tbf);
+    put_buffer(&mut state[TBF_END..STATE_BYTES], unit.rbf);
 }

@@ -22,7 +22,7 @@ use Rattle.place.specs.declared.Frame.{Frame}
 use Rattle.place.specs.declared.Place.{Place}
 use Rattle.place.specs.declared.Place.TheVariants.{Waiting, In}
 use Rattle.place.specs.declared.View.{View}
-use Rattle.rules.specs.declared.answer.Answer.TheVariants.{Given}
+use Rattle.std.specs.Prelude.{Ok}
 use Rattle.rules.specs.declared.answer.Reply.TheVariants.{Taken}
 use Rattle.rules.specs.declared.state.Act.TheVariants.{Nothing}
 use Rattle.rules.specs.declared.state.Acted.{Acted}
@@ -37,7 +37,8 @@ use Rattle.rules.specs.Slots.{core_drive, drive_at, on_event, on_level}
 use Rattle.rules.specs.State.{is_empty, rbf_after, seen_of, takes_part, tbf_after, view_of}
 use Rattle.rules.specs.Step.{answer_of, clashes, next_drive, step_of}
 use Rattle.rules.proofs.Calm.{pick_no, pick_yes}
-use Rattle.lent.proofs.Joins.{slot_taken}
+use Rattle.lent.proofs.Joins.{slot_came}
+use Rattle.rules.specs.Answers.{fine}
 
 -- ---- the frame
 
@@ -187,19 +188,19 @@ only_taken_in : (l : Loan) (bit : Bool) → clashes l.state bit ≡ false
     → taken_in (loan_took l bit) ≡ after_slot l (Level bit)
 unfolding slot_refusal tbf_after rbf_after sent_by stored_by
 only_taken_in l bit free acts =
-    ap (λ (a : Acted). taken_in (loan_acted l a)) (sym acts) ∙ slot_taken l (Level bit) (rw free refl)
+    ap (λ (a : Acted). taken_in (loan_acted l a)) (sym acts) ∙ slot_came l (Level bit) fine (rw free refl)
 
 level_word : (P : ℕ → Type 0) (w : ℕ) → leb w 1 ≡ true → P 0 → P 1 → P w
 level_word P w level low high =
     by_value P w 0 low (λ other. subst P (omega (arith, leb-true w 1 level, eqb-false w 0 other)) high)
 
 plain_slot : (l : Loan) (bit : Bool) → plain_of l.state.core.frame ≡ true
-    → record { loan = loan_took l bit; answer = Given (Taken drive_released) } ≡ after_slot l (Level bit)
+    → record { loan = loan_took l bit; answer = Ok (Taken drive_released) } ≡ after_slot l (Level bit)
 unfolding clashes next_drive
 plain_slot l bit e =
     let s = l.state in
     let clear = is_empty s.rbf in
-    ap (λ (d : ℕ). record { loan = loan_took l bit; answer = Given (Taken d) })
+    ap (λ (d : ℕ). record { loan = loan_took l bit; answer = Ok (Taken d) })
     (sym (released_after s.core clear bit e))
     ∙ only_taken_in l bit (rw (not_low s.core clear e) (and-false bit))
     (acts_plainly s.core bit (seen_of s.tbf s.rbf) e)
@@ -217,10 +218,10 @@ agreed_slot l bit e d =
     free false d = refl
 
 pub plain_word : (l : Loan) (w : ℕ) → leb w 1 ≡ true → plain_of l.state.core.frame ≡ true
-    → record { loan = loan_took l (eqb w 1); answer = Given (Taken drive_released) } ≡ after_word l w
+    → record { loan = loan_took l (eqb w 1); answer = Ok (Taken drive_released) } ≡ after_word l w
 unfolding step_of answer_of word_calls class_of slot_of
 plain_word l w level e =
-    level_word (λ (k : ℕ). record { loan = loan_took l (eqb k 1); answer = Given (Taken drive_released) } ≡ after_word l k)
+    level_word (λ (k : ℕ). record { loan = loan_took l (eqb k 1); answer = Ok (Taken drive_released) } ≡ after_word l k)
     w level (plain_slot l false e) (plain_slot l true e)
 
 pub agreed_word : (l : Loan) (w : ℕ) → leb w 1 ≡ true → amid_of l.state.core.frame ≡ true

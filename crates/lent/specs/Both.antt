@@ -1,12 +1,14 @@
 -- A unit whose buffers are lent, as a state, with the lent arrays; and, for what its functions promise each other, all
 -- that is left after a word together with the answer.
-use Rattle.std.specs.Prelude.{ℕ, Bool, List, ◌≡◌, drop, get_or, length}
+use Rattle.std.specs.Prelude.{ℕ, Bool, List, ◌≡◌, drop, get_or, length, Ok, Err, Result, Some}
 use Rattle.line.specs.Choice.{pick}
-use Rattle.line.specs.Numbers.{rbf_bytes, refused_level, refused_stray_bit, tbf_bytes}
+use Rattle.line.specs.Numbers.{rbf_bytes, tbf_bytes}
 use Rattle.line.specs.declared.slot.Slot.{Slot}
-use Rattle.line.specs.declared.slot.Slot.TheVariants.{Level, Start, Idle, Stray}
-use Rattle.rules.specs.declared.answer.Answer.{Answer}
-use Rattle.rules.specs.declared.answer.Answer.TheVariants.{Given, Refused}
+use Rattle.line.specs.declared.slot.Slot.TheVariants.{Level, Start, Idle}
+use Rattle.rules.specs.Answers.{Answer, Looked, fine}
+use Rattle.rules.specs.declared.answer.Refusal.{Refusal}
+use Rattle.rules.specs.declared.answer.Refusal.TheVariants.{LevelUnheard}
+use Rattle.rules.specs.declared.answer.Reply.{Reply}
 use Rattle.circles.specs.Buffers.{Buffers, InCircles, acting, after_calls, drawn, filled, sent_by}
 use Rattle.circles.specs.Buffers.{slot_calls, told_calls, word_calls}
 use Rattle.circles.specs.Calls.{turns, vacant}
@@ -14,7 +16,6 @@ use Rattle.circles.specs.Circle.{buffer, circle_of}
 use Rattle.circles.specs.declared.Span.{Span}
 use Rattle.lent.specs.declared.answer.Outcome.{Outcome}
 use Rattle.lent.specs.declared.answer.Outcome.TheVariants.{Taken as took, Written as wrote, Read as read}
-use Rattle.lent.specs.declared.answer.Outcome.TheVariants.{Refused as denied}
 use Rattle.rules.specs.declared.answer.Reply.TheVariants.{Taken, Written, Read}
 use Rattle.rules.specs.declared.state.Act.{Act}
 use Rattle.rules.specs.declared.state.Acted.{Acted}
@@ -74,31 +75,40 @@ pub record Both : Type 0 where
   pub loan : Loan
   pub answer : Answer
 
--- what a word came to, with what the unit then drives
-abbrev pub answer_to : Outcome → ℕ → Answer
-answer_to took drive = Given (Taken drive)
-answer_to wrote drive = Given (Written drive)
-answer_to (read value) drive = Given (Read value drive)
-answer_to (denied number) drive = Refused number
+-- what an accepted word came to, with what the unit then drives
+abbrev pub reply_to : Outcome → ℕ → Reply
+reply_to took drive = Taken drive
+reply_to wrote drive = Written drive
+reply_to (read value) drive = Read value drive
 
 abbrev pub done : Lent → Outcome → Done
 done u outcome = record { lent = u; outcome = outcome }
 
-abbrev pub both_in : Done → List ℕ → List ℕ → Both
-both_in d t r =
-    let l = loan_in d.lent t r in record { loan = l; answer = answer_to d.outcome (next_drive l.state) }
+abbrev pub done_in : Done → List ℕ → List ℕ → Both
+done_in d t r =
+    let l = loan_in d.lent t r in record { loan = l; answer = Ok (reply_to d.outcome (next_drive l.state)) }
 
-abbrev pub refused_in : Loan → ℕ → Both
-refused_in l number = record { loan = l; answer = Refused number }
+abbrev pub refused_in : Loan → Refusal → Both
+refused_in l refusal = record { loan = l; answer = Err refusal }
+
+-- any word, of a unit that a refusal leaves as it was
+abbrev pub both_in : Lent → Result Done Refusal → List ℕ → List ℕ → Both
+both_in u (Ok d) t r = done_in d t r
+both_in u (Err refusal) t r = refused_in (loan_in u t r) refusal
+
+-- what it comes to where something may be found against it
+abbrev pub looked_in : Loan → Looked → Both → Both
+looked_in l (Ok x) both = both
+looked_in l (Err refusal) both = refused_in l refusal
 
 abbrev pub taken_in : Loan → Both
-taken_in l = record { loan = l; answer = Given (Taken (next_drive l.state)) }
+taken_in l = record { loan = l; answer = Ok (Taken (next_drive l.state)) }
 
 abbrev pub written_in : Loan → Both
-written_in l = record { loan = l; answer = Given (Written (next_drive l.state)) }
+written_in l = record { loan = l; answer = Ok (Written (next_drive l.state)) }
 
 abbrev pub gave_in : Loan → ℕ → Both
-gave_in l value = record { loan = l; answer = Given (Read value (next_drive l.state)) }
+gave_in l value = record { loan = l; answer = Ok (Read value (next_drive l.state)) }
 
 abbrev pub loan_acted : Loan → Acted → Loan
 loan_acted l a = record { state = acted_on l.state a; buffers = after_calls (acting a.act) l.buffers }
@@ -166,16 +176,15 @@ after_word l w =
       answer = answer_of s w;
     }
 
--- ---- a slot in two steps: the number by which it is refused, or 0, and what it does
+-- ---- a slot in two steps: why it is refused, if it is, and what it does
 
-unfoldable pub slot_refusal : State → Slot → ℕ
-slot_refusal s (Level bit) = pick (clashes s bit) refused_level 0
-slot_refusal s Start = 0
-slot_refusal s Idle = 0
-slot_refusal s Stray = refused_stray_bit
+unfoldable pub slot_refusal : State → Slot → Looked
+slot_refusal s (Level bit) = pick (clashes s bit) (Err LevelUnheard) fine
+slot_refusal s Start = fine
+slot_refusal s Idle = fine
 
 abbrev pub slot_acted : State → Slot → Acted
-slot_acted s c = on_slot s.core c (seen_of s.tbf s.rbf)
+slot_acted s c = on_slot s.core (Some c) (seen_of s.tbf s.rbf)
 
 -- ---- what the functions of a unit whose buffers are lent promise, over any bytes that they are not lent
 
@@ -200,8 +209,8 @@ Sees u t seen = (r : List ℕ) → seen ≡ seen_of (circle_of tbf_bytes t u.tbf
 abbrev pub Clashes : Lent → Bool → Bool → Type 0
 Clashes u bit clash = (t r : List ℕ) → clash ≡ clashes (state_in u t r) bit
 
-abbrev pub SlotRefuses : Lent → Slot → ℕ → Type 0
-SlotRefuses u c number = (t r : List ℕ) → number ≡ slot_refusal (state_in u t r) c
+abbrev pub SlotRefuses : Lent → Slot → Looked → Type 0
+SlotRefuses u c looked = (t r : List ℕ) → looked ≡ slot_refusal (state_in u t r) c
 
 abbrev pub SlotActs : Lent → Slot → List ℕ → Acted → Type 0
 SlotActs u c t acted = (r : List ℕ) → acted ≡ slot_acted (state_in u t r) c
@@ -210,41 +219,41 @@ SlotActs u c t acted = (r : List ℕ) → acted ≡ slot_acted (state_in u t r) 
 abbrev pub Acts : Lent → Acted → List ℕ → List ℕ → Done → Type 0
 Acts u acted r r' d =
     (length r' ≡ length r)
-    × ((t : List ℕ) → length r ≡ rbf_bytes → both_in d t r' ≡ taken_in (loan_acted (loan_in u t r) acted))
+    × ((t : List ℕ) → length r ≡ rbf_bytes → done_in d t r' ≡ taken_in (loan_acted (loan_in u t r) acted))
 
-abbrev pub SlotsOn : Lent → Slot → List ℕ → List ℕ → List ℕ → Done → Type 0
+abbrev pub SlotsOn : Lent → Slot → List ℕ → List ℕ → List ℕ → Result Done Refusal → Type 0
 SlotsOn u c t r r' d =
-    (length r' ≡ length r) × (length r ≡ rbf_bytes → both_in d t r' ≡ after_slot (loan_in u t r) c)
+    (length r' ≡ length r) × (length r ≡ rbf_bytes → both_in u d t r' ≡ after_slot (loan_in u t r) c)
 
 -- TBF before and after
 abbrev pub Does : Lent → ℕ → ℕ → List ℕ → List ℕ → Done → Type 0
 Does u register v t t' d =
     (length t' ≡ length t)
-    × ((r : List ℕ) → length t ≡ tbf_bytes → both_in d t' r ≡ after_done (loan_in u t r) register v)
+    × ((r : List ℕ) → length t ≡ tbf_bytes → done_in d t' r ≡ after_done (loan_in u t r) register v)
 
-abbrev pub WritesTo : Lent → ℕ → ℕ → List ℕ → List ℕ → Done → Type 0
+abbrev pub WritesTo : Lent → ℕ → ℕ → List ℕ → List ℕ → Result Done Refusal → Type 0
 WritesTo u register v t t' d =
     (length t' ≡ length t)
-    × ((r : List ℕ) → length t ≡ tbf_bytes → both_in d t' r ≡ after_write (loan_in u t r) register v)
+    × ((r : List ℕ) → length t ≡ tbf_bytes → both_in u d t' r ≡ after_write (loan_in u t r) register v)
 
 abbrev pub TakesOut : Lent → List ℕ → Done → Type 0
 TakesOut u r d =
-    (t : List ℕ) → both_in d t r ≡ gave_in (loan_drawn (loan_in u t r)) (get_or (circle_of rbf_bytes r u.rbf) 0 0)
+    (t : List ℕ) → done_in d t r ≡ gave_in (loan_drawn (loan_in u t r)) (get_or (circle_of rbf_bytes r u.rbf) 0 0)
 
 -- whatever value stands in the word
-abbrev pub ReadsFrom : Lent → ℕ → List ℕ → Done → Type 0
-ReadsFrom u register r d = (t : List ℕ) (v : ℕ) → both_in d t r ≡ after_read (loan_in u t r) register v
+abbrev pub ReadsFrom : Lent → ℕ → List ℕ → Result Done Refusal → Type 0
+ReadsFrom u register r d = (t : List ℕ) (v : ℕ) → both_in u d t r ≡ after_read (loan_in u t r) register v
 
-abbrev pub Tells : Lent → ℕ → List ℕ → List ℕ → List ℕ → Done → Type 0
+abbrev pub Tells : Lent → ℕ → List ℕ → List ℕ → List ℕ → Result Done Refusal → Type 0
 Tells u word t t' r d =
-    (length t' ≡ length t) × (length t ≡ tbf_bytes → both_in d t' r ≡ after_host (loan_in u t r) word)
+    (length t' ≡ length t) × (length t ≡ tbf_bytes → both_in u d t' r ≡ after_host (loan_in u t r) word)
 
 -- ---- a word
 
-abbrev pub Works : Lent → ℕ → List ℕ → List ℕ → List ℕ → List ℕ → Done → Type 0
+abbrev pub Works : Lent → ℕ → List ℕ → List ℕ → List ℕ → List ℕ → Result Done Refusal → Type 0
 Works u w t t' r r' d =
     (length t' ≡ length t) × (length r' ≡ length r)
-    × (length t ≡ tbf_bytes → length r ≡ rbf_bytes → both_in d t' r' ≡ after_word (loan_in u t r) w)
+    × (length t ≡ tbf_bytes → length r ≡ rbf_bytes → both_in u d t' r' ≡ after_word (loan_in u t r) w)
 
 -- the buffers after it have as many bytes as before; and where they are lent with all their bytes, state and answer
 -- are those of the rules, all that is left is that of the definition, each place of the arrays included, and this is

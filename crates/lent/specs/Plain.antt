@@ -1,7 +1,7 @@
 -- The plainest words: a level while the unit waits for a start, a bit of a field that the unit only listens to, or a
 -- bit of a field that the line has as the unit drives it. The definitions of a word cover them; what is said here of
 -- them is proved of those (`proofs/Listening.antt`).
-use Rattle.std.specs.Prelude.{ℕ, Bool, true, false, not, ◌&&◌, List, ◌≡◌, eqb, ltb}
+use Rattle.std.specs.Prelude.{ℕ, Bool, true, false, not, ◌&&◌, List, ◌≡◌, eqb, ltb, Ok}
 use Rattle.line.specs.Choice.{◌▹◌}
 use Rattle.line.specs.Numbers.{drive_released}
 use Rattle.place.specs.Frame.{shifted_of, width_of}
@@ -10,7 +10,6 @@ use Rattle.place.specs.declared.Field.TheVariants.{Broadcast, Master, Slave, Con
 use Rattle.place.specs.declared.Frame.{Frame}
 use Rattle.place.specs.declared.Place.{Place}
 use Rattle.place.specs.declared.Place.TheVariants.{Waiting, In}
-use Rattle.rules.specs.declared.answer.Answer.TheVariants.{Given}
 use Rattle.rules.specs.declared.answer.Reply.TheVariants.{Taken}
 use Rattle.rules.specs.declared.state.Core.{Core}
 use Rattle.lent.specs.declared.step.Answered.{Answered}
@@ -67,7 +66,7 @@ loan_took l bit = record { state = took_on l.state bit; buffers = l.buffers }
 
 -- the line is released next
 abbrev pub plainly : Lent → Bool → Answered
-plainly u bit = record { lent = took_by u bit; answer = Given (Taken drive_released) }
+plainly u bit = record { lent = took_by u bit; answer = Ok (Taken drive_released) }
 
 -- the word is the level that the unit drives
 abbrev pub Agrees : Lent → ℕ → Bool → Type 0

@@ -8,7 +8,8 @@ use crate::step::{Answered, Lent};
 use line::numbers::DRIVE_RELEASED;
 use moves::shifted;
 use place::{Field, Frame, Place};
-use rules::answer::{Answer, Reply};
+use rules::answer::Reply;
+use rules::state::Core;
 
 // A bit of a field that is shifted in: not the broadcast bit, P or A.
 #[tactic(auto, unfolding(crate::specs::Plain::inside_of))]
@@ -17,11 +18,9 @@ fn inside(field: Field, n: u8) -> bool
 {
     match field {
         Field::Broadcast => false,
-        Field::Master => n < 12,
-        Field::Slave => n < 12,
+        Field::Master | Field::Slave => n < 12,
         Field::Control => n < 4,
-        Field::Length => n < 8,
-        Field::Data => n < 8,
+        Field::Length | Field::Data => n < 8,
     }
 }
 
@@ -59,15 +58,15 @@ fn listened(frame: Frame, bit: bool) -> Frame
 
 impl Lent {
     // The level is taken in, and nothing else happens.
-    fn took(mut self, bit: bool) -> Lent
+    fn took(self, bit: bool) -> Lent
         ensures { result ≡ took_by self bit }
     {
-        let mut core = self.core;
-        let next = listened(core.frame, bit);
-        core.frame = next;
-        core.idle = false;
-        self.core = core;
-        self
+        let core = Core {
+            frame: listened(self.core.frame, bit),
+            idle: false,
+            ..self.core
+        };
+        Lent { core, ..self }
     }
 
     // After a level that is only listened to, the line stays released.
@@ -76,7 +75,7 @@ impl Lent {
     {
         Answered {
             lent: self.took(bit),
-            answer: Answer::Given(Reply::Taken(DRIVE_RELEASED)),
+            answer: Ok(Reply::Taken(DRIVE_RELEASED)),
         }
     }
 
@@ -84,8 +83,7 @@ impl Lent {
     pub(crate) fn agrees(self, word: u32) -> bool
         ensures { Agrees self word result }
     {
-        let core = self.core;
-        amid(core.frame) & (self.drive() as u32 == word)
+        amid(self.core.frame) & (self.drive() as u32 == word)
     }
 
     // After such a bit.
@@ -93,10 +91,9 @@ impl Lent {
         ensures { Agreed self bit result }
     {
         let lent = self.took(bit);
-        let drive = lent.drive();
         Answered {
             lent,
-            answer: Answer::Given(Reply::Taken(drive)),
+            answer: Ok(Reply::Taken(lent.drive())),
         }
     }
 }

@@ -3,17 +3,15 @@ ghost use Rattle.std.specs.Prelude.{◌≡◌};
 ghost use Rattle.lent.specs.Both.{Acts, Clashes, Drives, Runs, Sees, SlotActs, SlotRefuses, SlotsOn};
 ghost use Rattle.lent.specs.Both.{Works, done, reset_lent};
 
-use crate::answer::{Outcome, answer_to};
-use crate::buffers::{count_of, is_clear, no_bytes, rbf_after, tbf_after, tbf_front};
+use crate::answer::Outcome;
+use crate::buffers::{count_of, front, is_clear, rbf_after, tbf_after};
 use crate::plain::plain;
 use circles::Span;
-use line::numbers::{
-    DRIVE_LOW, KIND_SLOT, RBF_BYTES, REFUSED_LEVEL, REFUSED_STRAY_BIT, SLOT_HIGH, TBF_BYTES,
-};
+use line::numbers::{DRIVE_LOW, KIND_SLOT, RBF_BYTES, SLOT_HIGH, TBF_BYTES};
 use line::slot::{Slot, slot_of};
 use output::core_drive;
 use registers::reset_core;
-use rules::answer::Answer;
+use rules::answer::{Answer, Refusal};
 use rules::state::{Acted, Core, Seen};
 use slots::on_slot;
 
@@ -32,7 +30,7 @@ pub struct Answered {
     pub answer: Answer,
 }
 
-// What a word leaves of a unit whose buffers are lent, and what it came to.
+// What an accepted word leaves of a unit whose buffers are lent, and what it came to.
 #[derive(Clone, Copy)]
 pub(crate) struct Done {
     pub lent: Lent,
@@ -45,10 +43,11 @@ impl Lent {
     pub(crate) fn reset() -> Lent
         ensures { result ≡ reset_lent }
     {
-        let core = reset_core();
-        let tbf = no_bytes();
-        let rbf = no_bytes();
-        Lent { core, tbf, rbf }
+        Lent {
+            core: reset_core(),
+            tbf: Span::EMPTY,
+            rbf: Span::EMPTY,
+        }
     }
 
     // What the unit drives in the next slot: 0, 1 (released) or 2 (start).
@@ -56,24 +55,21 @@ impl Lent {
     pub(crate) fn drive(self) -> u8
         ensures { Drives self result }
     {
-        let rbf = self.rbf;
-        core_drive(self.core, is_clear(RBF_BYTES, rbf))
+        core_drive(self.core, is_clear(RBF_BYTES, self.rbf))
     }
 
     // What a slot rests on of the buffers.
     fn seen(self, tbf: &[u8; TBF_BYTES]) -> Seen
         ensures { Sees self tbf.now result }
     {
-        let sent = self.tbf;
-        let stored = self.rbf;
         Seen {
-            waiting: count_of(TBF_BYTES, sent),
-            front: tbf_front(tbf, sent),
-            clear: is_clear(RBF_BYTES, stored),
+            waiting: count_of(TBF_BYTES, self.tbf),
+            front: front(tbf, self.tbf),
+            clear: is_clear(RBF_BYTES, self.rbf),
         }
     }
 
-    // What a word came to; `step` adds what is driven next.
+    // What an accepted word came to; `step` adds what is driven next.
     pub(crate) fn done(self, outcome: Outcome) -> Done
         ensures { result ≡ done self outcome }
     {
@@ -84,20 +80,20 @@ impl Lent {
     }
 
     // A slot is taken: what it did to the scalars, and what it does to the buffers.
-    fn acted_on(mut self, acted: Acted, rbf: &mut [u8; RBF_BYTES]) -> Done
+    fn acted_on(self, acted: Acted, rbf: &mut [u8; RBF_BYTES]) -> Done
         ensures { Acts self acted rbf.old rbf.new result }
     {
-        let core = acted.core;
-        let act = acted.act;
-        let sent = tbf_after(act, self.tbf);
-        let stored = rbf_after(act, rbf, self.rbf);
-        self.core = core;
-        self.tbf = sent;
-        self.rbf = stored;
-        self.done(Outcome::Taken)
+        let sent = tbf_after(acted.act, self.tbf);
+        let stored = rbf_after(acted.act, rbf, self.rbf);
+        let lent = Lent {
+            core: acted.core,
+            tbf: sent,
+            rbf: stored,
+        };
+        lent.done(Outcome::Taken)
     }
 
-    // Number 5: "level 1 while the unit drives 0".
+    // "Level 1 while the unit drives 0".
     #[tactic(auto, unfolding(rules::specs::Step::clashes))]
     fn clash(self, bit: bool) -> bool
         ensures { Clashes self bit result }
@@ -105,49 +101,56 @@ impl Lent {
         bit & (self.drive() == DRIVE_LOW)
     }
 
-    // The number by which a slot word is refused, or 0.
     #[tactic(auto, unfolding(crate::specs::Both::slot_refusal))]
-    fn slot_refusal(self, slot: Slot) -> u8
+    fn check_slot(self, slot: Slot) -> Result<(), Refusal>
         ensures { SlotRefuses self slot result }
     {
         match slot {
             Slot::Level(bit) => {
                 if self.clash(bit) {
-                    return REFUSED_LEVEL;
+                    return Err(Refusal::LevelUnheard);
                 }
-                0
+                Ok(())
             }
-            Slot::Start => 0,
-            Slot::Idle => 0,
-            Slot::Stray => REFUSED_STRAY_BIT,
+            Slot::Start | Slot::Idle => Ok(()),
         }
     }
 
-    // What a slot does; a stray bit, which is refused, does nothing.
+    // What a slot does.
     fn slot_acted(self, slot: Slot, tbf: &[u8; TBF_BYTES]) -> Acted
         ensures { SlotActs self slot tbf.now result }
     {
-        on_slot(self.core, slot, self.seen(tbf))
+        on_slot(self.core, Some(slot), self.seen(tbf))
     }
 
-    fn slot(self, slot: Slot, tbf: &[u8; TBF_BYTES], rbf: &mut [u8; RBF_BYTES]) -> Done
+    fn slot(
+        self,
+        slot: Slot,
+        tbf: &[u8; TBF_BYTES],
+        rbf: &mut [u8; RBF_BYTES],
+    ) -> Result<Done, Refusal>
         ensures { SlotsOn self slot tbf.now rbf.old rbf.new result }
     {
-        let number = self.slot_refusal(slot);
-        if number == 0 {
-            return self.acted_on(self.slot_acted(slot, tbf), rbf);
-        }
-        self.done(Outcome::Refused(number))
+        self.check_slot(slot)?;
+        Ok(self.acted_on(self.slot_acted(slot, tbf), rbf))
     }
 
-    // The unit after a word, and what the word came to.
-    fn word(self, word: u32, tbf: &mut [u8; TBF_BYTES], rbf: &mut [u8; RBF_BYTES]) -> Done
+    // The unit after a word, and what the word came to; where it is refused, the unit is as it was.
+    fn word(
+        self,
+        word: u32,
+        tbf: &mut [u8; TBF_BYTES],
+        rbf: &mut [u8; RBF_BYTES],
+    ) -> Result<Done, Refusal>
         ensures { Works self word tbf.old tbf.new rbf.old rbf.new result }
     {
-        if word / 0x1000_0000 == KIND_SLOT {
-            return self.slot(slot_of(word), tbf, rbf);
+        if word / 0x1000_0000 != KIND_SLOT {
+            return self.told(word, tbf, rbf);
         }
-        self.told(word, tbf, rbf)
+        let Some(slot) = slot_of(word) else {
+            return Err(Refusal::StrayBit);
+        };
+        self.slot(slot, tbf, rbf)
     }
 
     // The unit after a word, and what it is answered; its buffers are lent, and of these no place is written but where
@@ -155,20 +158,21 @@ impl Lent {
     pub fn step(self, word: u32, tbf: &mut [u8; TBF_BYTES], rbf: &mut [u8; RBF_BYTES]) -> Answered
         ensures { Runs self word tbf.old tbf.new rbf.old rbf.new result }
     {
-        let core = self.core;
-        if (word <= SLOT_HIGH) & plain(core.frame) {
+        if (word <= SLOT_HIGH) & plain(self.core.frame) {
             return self.plainly(word == SLOT_HIGH);
         }
         if (word <= SLOT_HIGH) & self.agrees(word) {
             return self.agreed(word == SLOT_HIGH);
         }
-        let after = self.word(word, tbf, rbf);
-        let lent = after.lent;
-        let outcome = after.outcome;
-        let drive = lent.drive();
-        Answered {
-            lent,
-            answer: answer_to(outcome, drive),
+        match self.word(word, tbf, rbf) {
+            Ok(done) => Answered {
+                lent: done.lent,
+                answer: Ok(done.outcome.reply(done.lent.drive())),
+            },
+            Err(refusal) => Answered {
+                lent: self,
+                answer: Err(refusal),
+            },
         }
     }
 }

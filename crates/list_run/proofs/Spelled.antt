@@ -1,10 +1,17 @@
 -- The run over bytes that is under way: words that bytes spell, and answers written four bytes at a time.
+use lib.Dec.{eqb}
+use mathlib.Core.Bool.{false}
 use mathlib.Core.Path.{◌≡◌, refl, sym, ap, ◌∙◌}
-use mathlib.Core.List.{List, [], ◌∷◌, ◌++◌}
+use mathlib.Core.List.{List, [], ◌∷◌, ◌++◌, append_assoc}
 use Prim.Native.Nat.{ℕ, ◌+◌, ◌-◌, ◌%◌, ◌≤◌, ◌<◌}
 use native.Mathlib.Omega.{arith}
-use lib.ListN.{length, drop, get_or, drop_of_length-le}
-use Rattle.line.proofs.Filled.{Filled, nothing_filled, one_filled, all_filled}
+use lib.ListN.{length, drop, get_or, take, length-append, length-drop, drop_of_length-le}
+use lib.Seq.{drop-drop, length-take-le}
+use Rattle.std.proofs.lemmas.Slice.{drop-put_mid, take-put_mid}
+use Rattle.answers.specs.Refused.{error_number}
+use Rattle.answers.specs.declared.ListError.{ListError}
+use Rattle.answers.specs.declared.ListError.TheVariants.{ByteCount, ShortList}
+use Rattle.line.proofs.Filled.{Filled, nothing_filled, all_filled}
 use Rattle.line.proofs.Places.{cut}
 use Rattle.isolation.specs.Runs.{run, answers}
 use Rattle.lent.specs.Both.{Runs, state_in}
@@ -15,12 +22,17 @@ use Rattle.lent.specs.declared.step.Answered.{Answered}
 use Rattle.lent.specs.declared.step.Lent.{Lent}
 use Rattle.unit.specs.Unit.{state_of, unit_in}
 use Rattle.unit.specs.declared.step.Unit.{Unit}
-use Rattle.list_run.specs.Run.{Whole, unit_over}
+use Rattle.list_run.specs.Run.{RunsSpelled, Whole, unit_over}
 use Rattle.lists.specs.Bytes.{byte_refusal, bytes_after, bytes_of, bytes_of_word, words_of}
 use Rattle.lists.proofs.Called.{taken_whole}
 use Rattle.list_run.specs.Run.{word_at, word_put}
 use Rattle.list_run.proofs.Underway.{run_cons, run_nil, answers_cons, answers_nil, whole_after}
 use Rattle.list_run.proofs.Underway.{one_over, over_nil}
+
+-- a refusal's number is none that says that nothing is refused
+pub error_some : (error : ListError) → eqb (error_number error) 0 ≡ false
+error_some ByteCount = refl
+error_some ShortList = refl
 
 -- the words from a place on: the word there, and those from four bytes further on
 words_cut : (s : List ℕ) (at : ℕ) → at + 4 ≤ length s → words_of (drop at s) ≡ word_at s at ∷ words_of (drop (at + 4) s)
@@ -46,17 +58,29 @@ bytes_nil : bytes_of [] ≡ []
 unfolding bytes_of
 bytes_nil = refl
 
+-- several elements written at the next places
+part_filled : {whole first now rest : List ℕ} {i : ℕ} (part : List ℕ) → Filled whole first now (part ++ rest) i
+    → i + length part ≤ length now
+    → Filled whole first (take i now ++ (part ++ drop (length part) (drop i now))) rest (i + length part)
+part_filled {whole} {first} {now} {rest} {i} part f room =
+    let n = length part in
+    record {
+      split = f.split ∙ rw (take-put_mid i n now part (i + n) refl (omega arith), append_assoc);
+      kept = drop-put_mid i n now part (i + n) (omega arith) (omega arith) refl
+          ∙ rw (← drop-drop n i now, f.kept, drop-drop n i first);
+      long = rw (
+        length-append (take i now) (part ++ drop n (drop i now)),
+        length-append part (drop n (drop i now)),
+        length-take-le i now (omega arith),
+        length-drop n (drop i now),
+        length-drop i now,
+      ) (omega arith) ∙ f.long;
+    }
+
 -- a word written at the next place
 word_filled : {whole first now rest : List ℕ} {at : ℕ} (w : ℕ) → Filled whole first now (bytes_of_word w ++ rest) at
     → at + 4 ≤ length first → Filled whole first (word_put now at w) rest (at + 4)
-word_filled {whole} {first} {now} {rest} {at} w f room =
-    let two : at + 1 + 1 ≡ at + 2 = omega arith in
-    let three : at + 2 + 1 ≡ at + 3 = omega arith in
-    let four : at + 3 + 1 ≡ at + 4 = omega arith in
-    let a = one_filled _ f (omega (arith, f.long)) in
-    let b = rw two at (one_filled _ a (omega (arith, a.long))) in
-    let c = rw three at (one_filled _ b (omega (arith, b.long))) in
-    rw four at (one_filled _ c (omega (arith, c.long)))
+word_filled w f room = part_filled (bytes_of_word w) f (omega (arith, f.long))
 
 -- after the words in the first `at` bytes: the state is s, the answer bytes are `now`
 pub record Spelled (s₀ : State) (words first : List ℕ) (s : State) (now : List ℕ) (at : ℕ) : Type 0 where
@@ -94,7 +118,7 @@ one_spelled {s₀} {s} {words} {first} {now} {at} d h s' e v ev =
       room = d.room;
     }
 
-pub all_spelled : {s₀ s : State} {words first now : List ℕ} {at : ℕ} → Spelled s₀ words first s now at
+all_spelled : {s₀ s : State} {words first now : List ℕ} {at : ℕ} → Spelled s₀ words first s now at
     → length words ≤ at
     → (s ≡ run unit s₀ (words_of words)) × (now ≡ bytes_of (answers unit s₀ (words_of words)) ++ drop (length words) first)
 all_spelled {s₀} {s} {words} {first} {now} {at} d h =
@@ -133,9 +157,17 @@ one_spelled_in {words = words} {t = t} {r = r} {at = at} {w = w} {u = u} d h wor
           ∙ one_over w _ whole step;
     }
 
-pub all_spelled_over : {v₀ : Unit} {words first now t r : List ℕ} {at : ℕ} {u : Lent}
-    → SpelledIn v₀ words first u t r now at → length words ≤ at → unit_in u t r ≡ unit_over v₀ (words_of words)
-all_spelled_over {words = words} d h = sym (d.units ∙ rw (drop_of_length-le words h, words_nil, over_nil))
+-- nothing is to come
+pub all_spelled_in : {v u : Lent} {words first now t₀ t r₀ r : List ℕ} {at : ℕ}
+    → SpelledIn (unit_in v t₀ r₀) words first u t r now at → length words ≤ at
+    → RunsSpelled v words first now t₀ t r₀ r u
+all_spelled_in {words = words} d h =
+    let done = all_spelled d.ran h in
+    record {
+      state = done.0;
+      written = done.1;
+      whole = sym (d.units ∙ rw (drop_of_length-le words h, words_nil, over_nil));
+    }
 
 -- the answer bytes of runs from one state
 pub same_answers : (s s' : State) (words out : List ℕ) → s ≡ s' → bytes_after s words out ≡ bytes_after s' words out

@@ -1,22 +1,27 @@
--- The paper's number for an outcome, a unit after a list of words, and what private functions over lent buffers promise
+-- The paper's number for a run, a unit after a list of words, and what private functions over lent buffers promise
 -- each other.
-use Rattle.std.specs.Prelude.{List, [], ◌∷◌, ◌++◌, ◌≡◌, ℕ, ◌+◌, ◌/◌, ◌%◌, eqb, length, drop, get_or, set}
+use Rattle.std.specs.Prelude.{List, [], ◌∷◌, ◌++◌, ◌≡◌, ℕ, ◌+◌, eqb, length, drop, get_or, take, Ok, Err, Result}
 use Rattle.line.specs.Choice.{pick}
-use Rattle.line.specs.Numbers.{rbf_bytes, refused_short_list, tbf_bytes}
+use Rattle.line.specs.Numbers.{rbf_bytes, tbf_bytes}
 use Rattle.isolation.specs.Runs.{run, answers}
-use Rattle.lists.specs.Bytes.{bytes_of, word_from, words_of}
+use Rattle.lists.specs.Bytes.{bytes_of, bytes_of_word, word_from, words_of}
 use Rattle.lent.specs.Both.{state_in}
 use Rattle.rules.specs.Machine.{unit}
 use Rattle.lent.specs.declared.step.Lent.{Lent}
 use Rattle.unit.specs.Unit.{unit_by, unit_in}
 use Rattle.unit.specs.declared.step.Unit.{Unit}
-use Rattle.list_run.specs.declared.run.Outcome.{Outcome}
-use Rattle.list_run.specs.declared.run.Outcome.TheVariants.{Ran, ShortList}
+use Rattle.answers.specs.Refused.{error_number}
+use Rattle.answers.specs.declared.ListError.{ListError}
 
--- the paper's number for each way in which a run ends, 0 where nothing is refused
-unfoldable pub number_of : Outcome → ℕ
-number_of Ran = 0
-number_of ShortList = refused_short_list
+-- the paper's number for a run, 0 where it is not refused
+abbrev pub number_of : Result Unit ListError → ℕ
+number_of (Ok u) = 0
+number_of (Err error) = error_number error
+
+-- the unit afterwards; a run that is refused leaves the one that was given
+abbrev pub unit_or : Unit → Result Unit ListError → Unit
+unit_or from (Ok u) = u
+unit_or from (Err error) = from
 
 -- a unit after a list of words, whole, each place of its arrays included
 unfoldable pub unit_over : Unit → List ℕ → Unit
@@ -32,9 +37,7 @@ abbrev pub word_at : List ℕ → ℕ → ℕ
 word_at s at = word_from (get_or s at 0) (get_or s (at + 1) 0) (get_or s (at + 2) 0) (get_or s (at + 3) 0)
 
 abbrev pub word_put : List ℕ → ℕ → ℕ → List ℕ
-word_put s at w =
-    set (set (set (set s at (w % 256)) (at + 1) (w / 0x100 % 256)) (at + 2) (w / 0x1_0000 % 256)) (at + 3)
-    (w / 0x100_0000 % 256)
+word_put s at w = take at s ++ (bytes_of_word w ++ drop 4 (drop at s))
 
 -- ---- a unit whose buffers are lent: the bytes of TBF and of RBF
 

@@ -1,41 +1,23 @@
 // The list run "over byte slices, each word little-endian; it returns 0 or a refusal".
-ghost use Rattle.std.specs.Prelude.{◌≡◌, ◌+◌, ◌<◌, ◌≤◌, length};
+ghost use Rattle.std.specs.Prelude.{◌≡◌, ◌+◌, ◌≤◌, length};
 ghost use Rattle.unit.specs.Unit.{state_of};
 ghost use Rattle.lists.specs.Bytes.{CalledBytes, byte_refusal, state_after, words_of};
-ghost use Rattle.list_run.specs.Run.{RunsSpelled, Whole, unit_left, word_at, word_put};
+ghost use Rattle.list_run.specs.Run.{RunsSpelled, Whole, number_of, unit_left, unit_or, word_at, word_put};
 
-use crate::run::unit_of;
-use answers::{answer_word, byte_refusal};
+use answers::{ListError, answer_word, check_bytes};
 use lent::step::Lent;
 use line::numbers::{RBF_BYTES, TBF_BYTES};
-use rules::answer::Answer;
 use unit::step::Unit;
 
 // How many bytes spell a word.
 const WORD_BYTES: usize = 4;
-
-// A unit after a run over bytes, and the number of the refusal, or 0.
-#[derive(Clone, Copy)]
-pub struct RanBytes {
-    pub unit: Unit,
-    pub number: u32,
-}
-
-fn wide(byte: u8) -> u32
-    ensures { (result ≡ byte) × (result < 256) }
-{
-    byte as u32
-}
 
 // The word that starts at a place of a byte list, the lowest byte first.
 fn word_at(bytes: &[u8], at: usize) -> u32
     requires { at + 4 ≤ length bytes.now }
     ensures { result ≡ word_at bytes.now at }
 {
-    wide(bytes[at])
-        + wide(bytes[at + 1]) * 0x100
-        + wide(bytes[at + 2]) * 0x1_0000
-        + wide(bytes[at + 3]) * 0x100_0000
+    u32::from_le_bytes([bytes[at], bytes[at + 1], bytes[at + 2], bytes[at + 3]])
 }
 
 // A word written from a place of a byte list on, the lowest byte first.
@@ -43,10 +25,7 @@ fn put_word(bytes: &mut [u8], at: usize, word: u32)
     requires { at + 4 ≤ length bytes.old }
     ensures { bytes.new ≡ word_put bytes.old at word }
 {
-    bytes[at] = (word % 256) as u8;
-    bytes[at + 1] = (word / 0x100 % 256) as u8;
-    bytes[at + 2] = (word / 0x1_0000 % 256) as u8;
-    bytes[at + 3] = (word / 0x100_0000 % 256) as u8;
+    bytes[at..at + WORD_BYTES].copy_from_slice(&word.to_le_bytes());
 }
 
 // The words that bytes spell, run in order by a unit whose buffers are lent; what stands past the last answer is kept.
@@ -62,53 +41,33 @@ fn run_spelled(
     ensures { RunsSpelled lent words.now answers.old answers.new
         tbf.old tbf.new rbf.old rbf.new result }
 {
-    let mut at: usize = 0;
-    while at < words.len() {
+    for at in (0..words.len()).step_by(WORD_BYTES) {
         let after = lent.step(word_at(words, at), tbf, rbf);
         lent = after.lent;
-        let answer = after.answer;
         // "A refused word in a list does not stop the list": its answer is of kind 15.
-        let Answer::Given(reply) = answer else {
-            put_word(answers, at, answer_word(answer));
-            at += WORD_BYTES;
+        let Ok(reply) = after.answer else {
+            put_word(answers, at, answer_word(after.answer));
             continue;
         };
-        put_word(answers, at, answer_word(Answer::Given(reply)));
-        at += WORD_BYTES;
+        put_word(answers, at, answer_word(Ok(reply)));
     }
     lent
 }
 
 // The words run from the unit given. The answer to the word at byte at stands at byte at of `answers`; bytes past the
-// last answer keep their contents. The number is 0, or 11 where the bytes are no whole words, or 12 where `answers` is
-// shorter than `words`; then nothing is run and nothing written. Each word is ruled as the tables of refusals say, and
-// the holder of the lock is protected from everybody else's frames.
+// last answer keep their contents. Refused where the bytes are no whole words, or else where `answers` is shorter than
+// `words`; then nothing is run and nothing written. Each word is ruled as the tables of refusals say, and the holder of
+// the lock is protected from everybody else's frames.
 #[tactic(auto, unfolding(crate::specs::Run::unit_left, lists::specs::Bytes::state_after, lists::specs::Bytes::bytes_after))]
-pub fn run_bytes(from: Unit, words: &[u8], answers: &mut [u8]) -> RanBytes
-    ensures called { CalledBytes (state_of from) words.now answers.old result.number
+pub fn run_bytes(from: Unit, words: &[u8], answers: &mut [u8]) -> Result<Unit, ListError>
+    ensures called { CalledBytes (state_of from) words.now answers.old (number_of result)
         answers.new }
-    ensures left { state_of result.unit ≡ state_after (state_of from) words.now answers.old }
-    ensures whole { result.unit ≡ unit_left result.number from (words_of words.now) }
+    ensures left { state_of (unit_or from result) ≡ state_after (state_of from) words.now answers.old }
+    ensures whole { unit_or from result ≡ unit_left (number_of result) from (words_of words.now) }
 {
-    let number = byte_refusal(words.len(), answers.len());
-    if number != 0 {
-        return RanBytes { unit: from, number };
-    }
-    let core = from.core;
-    let tbf = from.tbf;
-    let rbf = from.rbf;
-    let mut sent = tbf.bytes;
-    let mut stored = rbf.bytes;
-    let sent_span = tbf.span;
-    let stored_span = rbf.span;
-    let lent = Lent {
-        core,
-        tbf: sent_span,
-        rbf: stored_span,
-    };
-    let after = run_spelled(lent, words, answers, &mut sent, &mut stored);
-    RanBytes {
-        unit: unit_of(after, sent, stored),
-        number,
-    }
+    check_bytes(words.len(), answers.len())?;
+    let mut tbf = from.tbf.bytes;
+    let mut rbf = from.rbf.bytes;
+    let left = run_spelled(from.lent(), words, answers, &mut tbf, &mut rbf);
+    Ok(Unit::from_lent(left, tbf, rbf))
 }

@@ -34,7 +34,8 @@ fn listed(input: &[u8], text: &mut [u8]) -> usize
 {
     let mut answers = [0u8; MOST_BYTES];
     let whole = &input[..whole_words(input.len())];
-    run_bytes(Unit::reset(), whole, &mut answers);
+    // Never refused: the words are whole, and there is room for their answers.
+    let _ = run_bytes(Unit::reset(), whole, &mut answers);
     listing(input, &answers, text)
 }
 

@@ -7,14 +7,13 @@ use Rattle.circles.specs.Circle.{buffer, circle_of}
 use Rattle.lent.specs.Both.{left_by}
 use Rattle.lent.specs.declared.step.Lent.{Lent}
 use Rattle.rules.specs.State.{State, reset_core}
-use Rattle.unit.specs.declared.buffers.Rbf.{Rbf}
-use Rattle.unit.specs.declared.buffers.Tbf.{Tbf}
+use Rattle.unit.specs.declared.buffers.Buffer.{Buffer}
 use Rattle.unit.specs.declared.step.Unit.{Unit}
 
-abbrev pub tbf_of : Tbf → List ℕ
+abbrev pub tbf_of : Buffer tbf_bytes → List ℕ
 tbf_of t = circle_of tbf_bytes t.bytes t.span
 
-abbrev pub rbf_of : Rbf → List ℕ
+abbrev pub rbf_of : Buffer rbf_bytes → List ℕ
 rbf_of r = circle_of rbf_bytes r.bytes r.span
 
 abbrev pub state_of : Unit → State

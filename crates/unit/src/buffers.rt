@@ -1,38 +1,31 @@
 // The two buffers with their bytes.
-ghost use Rattle.std.specs.Prelude.{◌≡◌, length};
-ghost use Rattle.line.specs.Numbers.{rbf_bytes, tbf_bytes};
+ghost use Rattle.std.specs.Prelude.{◌≡◌, replicate};
+ghost use Rattle.circles.specs.Calls.{vacant};
 
 use circles::Span;
 use line::numbers::{RBF_BYTES, TBF_BYTES};
 
-// "TBF, 33 bytes".
+// A buffer that holds its bytes, in an array of so many places.
 #[derive(Clone, Copy)]
-pub struct Tbf {
-    pub bytes: [u8; TBF_BYTES],
+pub struct Buffer<const ROOM: usize> {
+    pub bytes: [u8; ROOM],
     pub span: Span,
 }
+
+// "TBF, 33 bytes".
+pub type Tbf = Buffer<TBF_BYTES>;
 
 // "RBF, 40 bytes".
-#[derive(Clone, Copy)]
-pub struct Rbf {
-    pub bytes: [u8; RBF_BYTES],
-    pub span: Span,
-}
+pub type Rbf = Buffer<RBF_BYTES>;
 
-impl Tbf {
-    // Its bytes, to be lent.
-    pub(crate) fn circle(self) -> [u8; TBF_BYTES]
-        ensures { (result ≡ self.bytes) × (length result ≡ tbf_bytes) }
+impl<const ROOM: usize> Buffer<ROOM> {
+    // As a reset leaves it: it holds none, and 0 stands in each place.
+    pub(crate) fn empty() -> Buffer<ROOM>
+        ensures { result ≡ record { bytes = replicate ROOM 0; span = vacant } }
     {
-        self.bytes
-    }
-}
-
-impl Rbf {
-    // Its bytes, to be lent.
-    pub(crate) fn circle(self) -> [u8; RBF_BYTES]
-        ensures { (result ≡ self.bytes) × (length result ≡ rbf_bytes) }
-    {
-        self.bytes
+        Buffer {
+            bytes: [0; ROOM],
+            span: Span::EMPTY,
+        }
     }
 }

@@ -1,13 +1,12 @@
 // A unit by value: a reset one, and one word.
-ghost use Rattle.std.specs.Prelude.{ℕ, ◌≡◌};
-ghost use Rattle.unit.specs.Unit.{Circling, reset_unit, state_of, unit_by};
+ghost use Rattle.std.specs.Prelude.{◌≡◌};
+ghost use Rattle.unit.specs.Unit.{Circling, lent_of, reset_unit, state_of, unit_by, unit_in};
 ghost use Rattle.rules.specs.Refusals.{Ruled};
 ghost use Rattle.rules.specs.State.{reset};
 ghost use Rattle.rules.specs.Step.{answer_of, step_of};
-ghost use Rattle.rules.specs.declared.answer.Answer.TheVariants.{Refused};
+ghost use Rattle.rules.specs.declared.answer.Refusal.{Refusal};
 
-use crate::buffers::{Rbf, Tbf};
-use circles::Span;
+use crate::buffers::{Buffer, Rbf, Tbf};
 use lent::step::Lent;
 use line::numbers::{RBF_BYTES, TBF_BYTES};
 use registers::reset_core;
@@ -35,18 +34,37 @@ impl Unit {
         ensures result_value { state_of result ≡ reset }
         ensures whole { result ≡ reset_unit }
     {
-        let core = reset_core();
-        let sent = Span { first: 0, count: 0 };
-        let stored = Span { first: 0, count: 0 };
         Unit {
-            core,
-            tbf: Tbf {
-                bytes: [0u8; TBF_BYTES],
-                span: sent,
+            core: reset_core(),
+            tbf: Buffer::empty(),
+            rbf: Buffer::empty(),
+        }
+    }
+
+    // All of it but the bytes of its buffers, which a step is lent.
+    pub fn lent(self) -> Lent
+        ensures { result ≡ lent_of self }
+    {
+        Lent {
+            core: self.core,
+            tbf: self.tbf.span,
+            rbf: self.rbf.span,
+        }
+    }
+
+    // Such a unit with the bytes that it was lent.
+    pub fn from_lent(lent: Lent, tbf: [u8; TBF_BYTES], rbf: [u8; RBF_BYTES]) -> Unit
+        ensures { result ≡ unit_in lent tbf rbf }
+    {
+        Unit {
+            core: lent.core,
+            tbf: Buffer {
+                bytes: tbf,
+                span: lent.tbf,
             },
-            rbf: Rbf {
-                bytes: [0u8; RBF_BYTES],
-                span: stored,
+            rbf: Buffer {
+                bytes: rbf,
+                span: lent.rbf,
             },
         }
     }
@@ -59,39 +77,14 @@ impl Unit {
         ensures refusals { Ruled (state_of self) word (state_of result.unit) result.answer }
         ensures circles { Circling self word result.unit }
         ensures whole { result.unit ≡ unit_by self word }
-        ensures unchanged { (n : ℕ) → result.answer ≡ Refused n → result.unit ≡ self }
+        ensures unchanged { (refusal : Refusal) → result.answer ≡ Err refusal → result.unit ≡ self }
     {
-        let tbf = self.tbf;
-        let rbf = self.rbf;
-        let core = self.core;
-        let mut sent = tbf.circle();
-        let mut stored = rbf.circle();
-        let sent_span = tbf.span;
-        let stored_span = rbf.span;
-        let lent = Lent {
-            core,
-            tbf: sent_span,
-            rbf: stored_span,
-        };
-        let after = lent.step(word, &mut sent, &mut stored);
-        let next = after.lent;
-        let next_core = next.core;
-        let next_sent = next.tbf;
-        let next_stored = next.rbf;
-        let answer = after.answer;
+        let mut tbf = self.tbf.bytes;
+        let mut rbf = self.rbf.bytes;
+        let after = self.lent().step(word, &mut tbf, &mut rbf);
         Stepped {
-            unit: Unit {
-                core: next_core,
-                tbf: Tbf {
-                    bytes: sent,
-                    span: next_sent,
-                },
-                rbf: Rbf {
-                    bytes: stored,
-                    span: next_stored,
-                },
-            },
-            answer,
+            unit: Unit::from_lent(after.lent, tbf, rbf),
+            answer: after.answer,
         }
     }
 }

@@ -48,8 +48,7 @@ impl Listed {
         ensures { self.new.held ≡ 0 }
     {
         let mut answers = [0; LIST_WORDS];
-        let finished = run(self.unit, &self.words[..self.held], &mut answers);
-        self.unit = finished.unit;
+        self.unit = run(self.unit, &self.words[..self.held], &mut answers).unwrap_or(self.unit);
         let wrong = answers
             .iter()
             .zip(self.said.iter())

@@ -1,22 +1,14 @@
-use borrow.Author.Rules.{rules}
-use native.Mathlib.Omega.{arith}
-use mathlib.Core.Path.{ap}
-use Prim.Native.Nat.{◌-◌}
-use Rattle.circles.specs.Circle.{items}
-use Rattle.lasting.proofs.Parts.{none_put, one_put, all_put, items_next, items_none}
+use Rattle.std.proofs.Common.{◌≡◌, ◌<◌, ◌∙◌, sym, arith, length}
+use lib.Seq.{ext_get_or}
+use Rattle.circles.specs.Circle.{buffer, held_in, list_of}
+use Rattle.circles.proofs.Places.{byte_at, list_length}
 use Rattle.lasting.proofs.buffers.unroll.Goals as goal
 
-pub loop-i-init : goal.loop-i-init
-loop-i-init c =
-    (none_put _ _ _ (ap (items _ _ _) (omega arith)), search rules)
-
-pub loop-i-preserved : goal.loop-i-preserved
-loop-i-preserved c = (
-  rw c.next-place.ensures.0
-      (one_put _ c.loop-i.invariant.0 (omega arith) (items_next _ _ _ _ _ (omega arith))),
-  c.next-place.ensures.1,
-)
-
 pub returns : goal.returns
-returns c =
-    all_put c.loop-i.invariant.0 (omega arith) (items_none _ _ _ _ (omega arith))
+returns g c =
+    let room = g.row.ROOM in
+    let b = buffer c.args.buffer.now.bytes c.args.buffer.now.span in
+    let long : length c.loop-k.to ≡ length (list_of room b) = c.loop-k.auto.to ∙ c.requires ∙ sym (list_length room b) in
+    ext_get_or 0 _ _ long
+    (λ k h. let held : k < held_in room b = omega (arith, long, list_length room b) in
+    c.loop-k.invariant k (omega (arith, long, list_length room b, c.requires, c.loop-k.auto.to)) ∙ sym (byte_at room b k held))

@@ -1,13 +1,8 @@
-use Prim.Native.Nat.{◌-◌, ◌<◌}
-use lib.ListN.{length}
-use Rattle.circles.specs.Circle.{items}
-use Rattle.lasting.proofs.Parts.{Filling}
+use Rattle.std.proofs.Common.{◌≡◌, ℕ, ◌<◌, get_or}
+use Rattle.circles.specs.Circle.{buffer, place_in}
 use Rattle.lasting.proofs.buffers.unroll.Given as goal
 
-abbrev pub invariant-loop-i : goal.invariant-loop-i
-invariant-loop-i l = Filling (items (length l.bytes) l.bytes l.initial.place (length l.initial.to)) l.initial.to l.to
-    (items (length l.bytes) l.bytes l.place (length l.initial.to - l.i)) l.i
-    × (l.place < length l.bytes)
-
-abbrev pub decreases-loop-i : goal.decreases-loop-i
-decreases-loop-i l = length l.initial.to - l.i
+abbrev pub invariant-loop-k : goal.invariant-loop-k
+invariant-loop-k g l =
+    (k : ℕ) → k < l.k
+    → get_or l.to k 0 ≡ get_or l.buffer.bytes (place_in g.row.ROOM (buffer l.buffer.bytes l.buffer.span) k) 0

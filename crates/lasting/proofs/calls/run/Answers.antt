@@ -1,43 +1,47 @@
 use native.Mathlib.Omega.{arith}
-use borrow.Author.Tests.{eq-eqb, ne_eqb}
-use mathlib.Core.Path.{sym, ◌∙◌}
+use borrow.Author.Tests.{eqb-false, ne_eqb}
+use mathlib.Core.Path.{sym}
+use Rattle.std.proofs.lemmas.Result.{err_from_is_err_and}
 use Rattle.rules.proofs.Protects.{holds}
 use Rattle.keeping.specs.Calls.{run_answers, run_bytes, run_refusal, run_state, size_refusal}
+use Rattle.list_run.proofs.Spelled.{error_some}
 use Rattle.lasting.proofs.Taken.{promised}
 use Rattle.lasting.proofs.calls.run.Goals as goal
 
-pub returns-then-number-ne0 : goal.returns-then-number-ne0
-unfolding run_refusal run_answers run_bytes run_state size_refusal
-returns-then-number-ne0 c =
-    let some = ne_eqb _ _ c.if-number-ne0.true in
-    record {
-      ends = simp (← c.byte_refusal-number.ensures, some);
-      written = simp (← c.byte_refusal-number.ensures, some);
-      left = simp (← c.byte_refusal-number.ensures, some);
-      again = simp (← c.byte_refusal-number.ensures, some);
-      ruled = λ none. absurd (c.if-number-ne0.true none);
+pub returns-in_err-check_bytes : goal.returns-in_err-check_bytes
+unfolding run_refusal run_answers run_bytes run_state
+returns-in_err-check_bytes c =
+    let p = err_from_is_err_and c.from_residual.result c.from_residual.ensures.1 in
+    let short = c.in_err-check_bytes.ensures in
+    let some = error_some c.in_err-check_bytes.field-0.0 in
+    rw (p.1, p.2)
+    (record {
+      ends = simp (← short, some);
+      written = simp (← short, some);
+      left = simp (← short, some);
+      again = simp (← short, some);
+      ruled = λ none. absurd (eqb-false _ 0 some none);
       protected = holds;
-    }
+    })
 
 pub returns-then-state-ne-STATE_BYTES : goal.returns-then-state-ne-STATE_BYTES
 unfolding run_refusal run_answers run_bytes run_state size_refusal
 returns-then-state-ne-STATE_BYTES c =
-    let none = eq-eqb _ _ c.if-number-ne0.false in
+    let none = c.in_ok-check_bytes.ensures in
     let wrong = ne_eqb _ _ c.if-state-ne-STATE_BYTES.true in
     record {
-      ends = simp (← c.byte_refusal-number.ensures, none, wrong);
-      written = simp (← c.byte_refusal-number.ensures, none, wrong);
-      left = simp (← c.byte_refusal-number.ensures, none, wrong);
-      again = simp (← c.byte_refusal-number.ensures, none, wrong);
+      ends = simp (← none, wrong);
+      written = simp (← none, wrong);
+      left = simp (← none, wrong);
+      again = simp (← none, wrong);
       ruled = λ zero. absurd (let b : ⊥ = omega (arith, zero) in b);
       protected = holds;
     }
 
 pub returns : goal.returns
-unfolding run_refusal run_answers run_bytes run_state size_refusal
 returns c =
-    let all = promised _ _ _ _ _ _ _ (sym c.byte_refusal-number.ensures ∙ c.if-number-ne0.false)
-    c.if-state-ne-STATE_BYTES.false c.unit_from-kept.ensures c.run_bytes-ran.ensures.left c.run_bytes-ran.ensures.called.written
+    let all = promised _ _ _ _ _ _ _ (sym c.in_ok-check_bytes.ensures)
+    c.if-state-ne-STATE_BYTES.false c.unit_from.ensures c.in_ok-left.ensures.left c.in_ok-left.ensures.called.written
     c.put_unit.ensures in
     record {
       ends = sym all.number;

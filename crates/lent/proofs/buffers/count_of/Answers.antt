@@ -5,4 +5,4 @@ use Rattle.lent.proofs.buffers.count_of.Goals as goal
 
 pub returns : goal.returns
 returns c =
-    λ bytes. c.held.ensures ∙ sym (list_length c.args.room (buffer bytes c.args.span))
+    λ bytes. c.held.ensures.value ∙ sym (list_length c.args.room (buffer bytes c.args.span))

@@ -1,15 +1,7 @@
-use native.Mathlib.Omega.{arith}
-use lib.ListN.{length-set}
+use Rattle.std.proofs.Common.{◌≡◌, ◌+◌, ◌-◌, arith}
 use Rattle.list_run.proofs.bytes.put_word.Goals as goal
 
-pub bounds-bytes-at-2 : goal.bounds-bytes-at-2
-bounds-bytes-at-2 c =
-    simp length-set (omega arith)
-
-pub bounds-bytes-at-3 : goal.bounds-bytes-at-3
-bounds-bytes-at-3 c =
-    simp length-set (omega arith)
-
-pub bounds-bytes-at-4 : goal.bounds-bytes-at-4
-bounds-bytes-at-4 c =
-    simp length-set (omega arith)
+pub returns : goal.returns
+returns c =
+    let four : c.args.at + 4 - c.args.at ≡ 4 = omega arith in
+    rw (four, c.copy_from_slice.ensures.after, c.to_le_bytes.ensures)

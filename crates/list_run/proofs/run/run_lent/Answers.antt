@@ -1,12 +1,7 @@
 use mathlib.Core.Path.{sym, ap, ◌∙◌}
-use Prim.Native.Nat.{◌-◌}
 use Rattle.rules.specs.Step.{word_of}
-use Rattle.list_run.proofs.Underway.{none_run_in, one_run_in, all_over, all_run}
+use Rattle.list_run.proofs.Underway.{one_run_in, all_over, all_run}
 use Rattle.list_run.proofs.run.run_lent.Goals as goal
-
-pub loop-i-init : goal.loop-i-init
-loop-i-init c =
-    none_run_in _ _ _ _ _ c.requires.whole
 
 pub loop-i-preserved-in_default : goal.loop-i-preserved-in_default
 loop-i-preserved-in_default c =
@@ -16,7 +11,7 @@ loop-i-preserved-in_default c =
 pub loop-i-preserved : goal.loop-i-preserved
 loop-i-preserved c =
     one_run_in c.loop-i.invariant c.loop-i-test.true c.requires.room
-    c.step-after.ensures _ (c.answer_word-in-loop-i.ensures ∙ sym (ap word_of c.in-Given.is))
+    c.step-after.ensures _ (c.answer_word-in-loop-i.ensures ∙ sym (ap word_of c.in-Ok.is))
 
 pub returns : goal.returns
 returns c =

@@ -1,11 +1,6 @@
-use Prim.Native.Nat.{◌-◌}
-use lib.ListN.{length}
 use Rattle.unit.specs.Unit.{unit_in}
 use Rattle.list_run.proofs.Underway.{UnderwayIn}
 use Rattle.list_run.proofs.run.run_lent.Given as goal
 
 abbrev pub invariant-loop-i : goal.invariant-loop-i
 invariant-loop-i l = UnderwayIn (unit_in l.initial.lent l.initial.tbf l.initial.rbf) l.words l.initial.answers l.lent l.tbf l.rbf l.answers l.i
-
-abbrev pub decreases-loop-i : goal.decreases-loop-i
-decreases-loop-i l = length l.words - l.i

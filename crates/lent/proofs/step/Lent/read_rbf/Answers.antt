@@ -3,5 +3,5 @@ use Rattle.lent.proofs.step.Lent.read_rbf.Goals as goal
 
 pub returns : goal.returns
 returns c =
-    λ t. rw (c.done.ensures, c.without_oldest-rest.ensures, c.rbf_front-byte.ensures)
+    λ t. rw (c.done.ensures, c.without_oldest-rest.ensures, c.front-byte.ensures)
     (drawn_state c.args.self t c.args.rbf.now _)

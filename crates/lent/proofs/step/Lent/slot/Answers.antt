@@ -1,24 +1,24 @@
-use borrow.Author.Tests.{eq-eqb, ne_eqb}
 use mathlib.Core.Path.{refl, ◌∙◌}
-use Rattle.lent.proofs.Joins.{slot_refused, slot_taken}
+use Rattle.std.proofs.Common.{Ok, Err}
+use Rattle.std.proofs.lemmas.Result.{err_from_is_err_and}
+use Rattle.lent.proofs.Joins.{slot_came}
 use Rattle.lent.specs.Both.{loan_in}
 use Rattle.lent.proofs.step.Lent.slot.Goals as goal
 
-pub returns-then-number-eq0 : goal.returns-then-number-eq0
-returns-then-number-eq0 c = (
+pub returns-in_err-check_slot : goal.returns-in_err-check_slot
+returns-in_err-check_slot c =
+    let p = err_from_is_err_and c.from_residual.result c.from_residual.ensures.1 in (
+      refl,
+      λ full. rw (p.1, p.2)
+          (slot_came (loan_in c.args.self c.args.tbf.now c.args.rbf.now) c.args.slot (Err _)
+          (c.in_err-check_slot.ensures c.args.tbf.now c.args.rbf.now)),
+    )
+
+pub returns : goal.returns
+returns c = (
   c.acted_on.ensures.0,
   λ full. c.acted_on.ensures.1 c.args.tbf.now full
       ∙ rw (c.slot_acted.ensures c.args.rbf.now)
-      (slot_taken (loan_in c.args.self c.args.tbf.now c.args.rbf.now) c.args.slot
-      (rw (← c.slot_refusal-number.ensures c.args.tbf.now c.args.rbf.now)
-      (eq-eqb _ _ c.if-number-eq0.true))),
+      (slot_came (loan_in c.args.self c.args.tbf.now c.args.rbf.now) c.args.slot (Ok tt)
+      (c.in_ok-check_slot.ensures c.args.tbf.now c.args.rbf.now)),
 )
-
-pub returns : goal.returns
-returns c =
-    let number = c.slot_refusal-number.ensures c.args.tbf.now c.args.rbf.now in (
-      refl,
-      λ full. rw (c.done.ensures, number)
-          (slot_refused (loan_in c.args.self c.args.tbf.now c.args.rbf.now) c.args.slot
-          (rw (← number) (ne_eqb _ _ c.if-number-eq0.false))),
-    )

@@ -1,6 +1,6 @@
 use mathlib.Core.Path.{refl, sym, ◌∙◌}
 use Rattle.line.proofs.Either.{both}
-use Rattle.lent.proofs.Joins.{runs, runs_said}
+use Rattle.lent.proofs.Joins.{runs, runs_done}
 use Rattle.lent.proofs.Listening.{agreed_word, plain_word}
 use Rattle.lent.specs.Both.{loan_in}
 use Rattle.lent.proofs.step.Lent.step.Goals as goal
@@ -19,6 +19,11 @@ returns-then-word-agrees c =
     runs refl refl (λ ft fr. c.agreed.ensures c.args.tbf.now c.args.rbf.now
     ∙ agreed_word (loan_in c.args.self c.args.tbf.now c.args.rbf.now) c.args.word tests.0 met.0 met.1)
 
-pub returns : goal.returns
-returns c =
-    runs_said c.word-after.result _ c.word-after.ensures (c.drive-drive.ensures _ _) c.answer_to.ensures
+pub returns-in-Ok : goal.returns-in-Ok
+returns-in-Ok c =
+    runs_done c.in-Ok.done _ _ c.in-Ok.ensures (c.drive.ensures _ _) c.reply.ensures
+
+-- "A refusal changes no state"
+pub returns-in-Err : goal.returns-in-Err
+returns-in-Err c =
+    runs c.in-Err.ensures.0 c.in-Err.ensures.1 c.in-Err.ensures.2

@@ -1,31 +1,23 @@
-use borrow.Author.Tests.{eq-eqb, ne_eqb}
 use mathlib.Core.Path.{refl, ◌∙◌}
-use Rattle.lent.proofs.Joins.{write_accepted, write_refused}
+use Rattle.std.proofs.Common.{Ok, Err}
+use Rattle.std.proofs.lemmas.Result.{err_from_is_err_and}
+use Rattle.lent.proofs.Joins.{write_came}
 use Rattle.lent.specs.Both.{loan_in}
 use Rattle.lent.proofs.step.Lent.write.Goals as goal
 
-pub returns-then-number-eq0 : goal.returns-then-number-eq0
-returns-then-number-eq0 c = (
-  c.write_done.ensures.0,
-  λ r full. c.write_done.ensures.1 r full
-      ∙ write_accepted (loan_in c.args.self c.args.tbf.now r) c.args.register c.args.v
-      (rw (
-        ← c.count_of.ensures c.args.tbf.now,
-        ← c.write_refusal-number.ensures,
-      ) (eq-eqb _ _ c.if-number-eq0.true)),
-)
+pub returns-in_err-check_write : goal.returns-in_err-check_write
+returns-in_err-check_write c =
+    let p = err_from_is_err_and c.from_residual.result c.from_residual.ensures.1 in (
+      refl,
+      λ r full. rw (p.1, p.2)
+          (write_came (loan_in c.args.self c.args.tbf.now r) c.args.register c.args.v (Err _)
+          (rw (c.count_of.ensures c.args.tbf.now) at c.in_err-check_write.ensures)),
+    )
 
 pub returns : goal.returns
 returns c = (
-  refl,
-  λ r full. rw (
-    c.done.ensures,
-    c.write_refusal-number.ensures,
-    c.count_of.ensures c.args.tbf.now,
-  )
-      (write_refused (loan_in c.args.self c.args.tbf.now r) c.args.register c.args.v
-      (rw (
-        ← c.count_of.ensures c.args.tbf.now,
-        ← c.write_refusal-number.ensures,
-      ) (ne_eqb _ _ c.if-number-eq0.false))),
+  c.write_done.ensures.0,
+  λ r full. c.write_done.ensures.1 r full
+      ∙ write_came (loan_in c.args.self c.args.tbf.now r) c.args.register c.args.v (Ok tt)
+      (rw (c.count_of.ensures c.args.tbf.now) at c.in_ok-check_write.ensures),
 )

@@ -1,7 +1,7 @@
 use borrow.Author.Tests.{eq-eqb, ne_eqb}
 use mathlib.Core.Path.{refl, ap, ◌∙◌}
-use Rattle.lent.proofs.Joins.{done_other, done_reset, done_tbf}
 use lib.ListN.{length}
+use Rattle.lent.proofs.Joins.{done_other, done_reset, done_tbf}
 use Rattle.lent.specs.Both.{loan_in, written_in}
 use Rattle.circles.specs.Circle.{Buffer}
 use Rattle.lent.proofs.Changed.{filled_state, reset_state}
@@ -11,8 +11,8 @@ use Rattle.lent.proofs.step.Lent.write_done.Goals as goal
 
 pub returns-then-register-eq-REG_TBF : goal.returns-then-register-eq-REG_TBF
 returns-then-register-eq-REG_TBF c = (
-  ap (λ (b : Buffer). length b.bytes) c.tbf_push-sent.ensures ∙ (call_unmoved _ _ (push c.args.v)).as_long,
-  λ r full. rw c.done.ensures (filled_state c.args.self c.args.v _ _ r _ c.tbf_push-sent.ensures full
+  ap (λ (b : Buffer). length b.bytes) c.push-sent.ensures ∙ (call_unmoved _ _ (push c.args.v)).as_long,
+  λ r full. rw c.done.ensures (filled_state c.args.self c.args.v _ _ r _ c.push-sent.ensures full
       ∙ done_tbf (loan_in c.args.self c.args.tbf.now r) c.args.register
       c.args.v (eq-eqb _ _ c.if-register-eq-REG_TBF.true)),
 )
@@ -28,7 +28,7 @@ returns-then-register-v c = (
 pub returns : goal.returns
 returns c = (
   refl,
-  λ r full. rw (c.done-2.ensures, c.with_regs-next.ensures, c.write.ensures)
+  λ r full. rw (c.done-2.ensures, c.write.ensures)
       (done_other (loan_in c.args.self c.args.tbf.now r) c.args.register c.args.v (ne_eqb _ _
       c.if-register-eq-REG_TBF.false) c.if-register-v.false),
 )
