@@ -24,13 +24,14 @@ pub enum ListError {
     ShortList,
 }
 
-impl From<ListError> for u32 {
-    ghost from_gives = { λ error number. number ≡ error_number error };
-
-    fn from(error: ListError) -> u32 {
-        match error {
-            ListError::ByteCount => REFUSED_BYTE_COUNT as u32,
-            ListError::ShortList => REFUSED_SHORT_LIST as u32,
+impl ListError {
+    // The number that a host is given.
+    pub fn number(self) -> u32
+        ensures { result ≡ error_number self }
+    {
+        match self {
+            ListError::ByteCount => u32::from(REFUSED_BYTE_COUNT),
+            ListError::ShortList => u32::from(REFUSED_SHORT_LIST),
         }
     }
 }
@@ -72,7 +73,7 @@ pub fn answer_word(answer: Answer) -> u32
 {
     match answer {
         Ok(reply) => reply_word(reply),
-        Err(refusal) => refused_word(u8::from(refusal)),
+        Err(refusal) => refused_word(refusal.number()),
     }
 }
 

@@ -31,12 +31,13 @@ impl From<ListError> for CallError {
     }
 }
 
-impl From<CallError> for u32 {
-    ghost from_gives = { λ error number. number ≡ error_number error };
-
-    fn from(error: CallError) -> u32 {
-        match error {
-            CallError::Run(error) => u32::from(error),
+impl CallError {
+    // The number that a host is given.
+    pub fn number(self) -> u32
+        ensures { result ≡ error_number self }
+    {
+        match self {
+            CallError::Run(error) => error.number(),
             CallError::StateSize => REFUSED_STATE_SIZE,
         }
     }

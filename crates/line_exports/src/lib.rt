@@ -114,6 +114,6 @@ pub extern "C" fn iebus_load(
             *largest = 0;
             0
         }
-        Err(error) => error.number(),
+        Err(refused) => refused.number(),
     }
 }

@@ -28,12 +28,12 @@ enum RollError {
     Absent,
 }
 
-#[tactic(auto, unfolding(rolls::specs::Kept::number_for))]
-impl From<RollError> for u32 {
-    ghost from_gives = { λ error number. number ≡ number_for (refused_as error) };
-
-    fn from(error: RollError) -> u32 {
-        match error {
+impl RollError {
+    #[tactic(auto, unfolding(rolls::specs::Kept::number_for))]
+    fn number(self) -> u32
+        ensures { result ≡ number_for (refused_as self) }
+    {
+        match self {
             RollError::OutOfRange => u32::from(REFUSED_CONTENDER_RANGE),
             RollError::Size => BAD_SIZE,
             RollError::Alike => u32::from(REFUSED_ROLL_ALIKE),
@@ -50,7 +50,7 @@ fn told(end: Result<(), RollError>) -> u32
 {
     match end {
         Ok(()) => 0,
-        Err(error) => u32::from(error),
+        Err(error) => error.number(),
     }
 }
 

@@ -3,8 +3,8 @@ ghost use Rattle.std.specs.Prelude.{◌≡◌};
 ghost use Rattle.rules.specs.Answers.{number_of};
 
 use line::numbers::{
-    REFUSED_EMPTY, REFUSED_FULL, REFUSED_KIND, REFUSED_LEVEL, REFUSED_OUT_OF_TURN, REFUSED_REGISTER,
-    REFUSED_STRAY_BIT, REFUSED_TOO_FEW, REFUSED_UNABLE, REFUSED_VALUE,
+    REFUSED_EMPTY, REFUSED_FULL, REFUSED_KIND, REFUSED_LEVEL, REFUSED_OUT_OF_TURN,
+    REFUSED_REGISTER, REFUSED_STRAY_BIT, REFUSED_TOO_FEW, REFUSED_UNABLE, REFUSED_VALUE,
 };
 use std::error::Error;
 use std::fmt;
@@ -35,11 +35,12 @@ pub enum Refusal {
 
 pub type Answer = Result<Reply, Refusal>;
 
-impl From<Refusal> for u8 {
-    ghost from_gives = { λ refusal number. number ≡ number_of refusal };
-
-    fn from(refusal: Refusal) -> u8 {
-        match refusal {
+impl Refusal {
+    // The number that a host is given.
+    pub fn number(self) -> u8
+        ensures { result ≡ number_of self }
+    {
+        match self {
             Refusal::UnknownKind => REFUSED_KIND,
             Refusal::StrayBit => REFUSED_STRAY_BIT,
             Refusal::UnlistedRegister => REFUSED_REGISTER,

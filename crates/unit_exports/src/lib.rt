@@ -18,7 +18,7 @@ fn number(done: Result<(), CallError>) -> u32
 {
     match done {
         Ok(()) => 0,
-        Err(refusal) => u32::from(refusal),
+        Err(refusal) => refusal.number(),
     }
 }
 
@@ -30,7 +30,7 @@ pub extern "C" fn iebus_run(words: &[u8], answers: &mut [u8]) -> u32
 {
     match run_bytes(Unit::reset(), words, answers) {
         Ok(_) => 0,
-        Err(error) => u32::from(error),
+        Err(error) => error.number(),
     }
 }
 
