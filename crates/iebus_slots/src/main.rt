@@ -93,6 +93,7 @@ fn text<'a>(rt: &impl Env, place: usize, bytes: &'a mut [u8]) -> &'a [u8] {
 }
 
 fn main(rt: HostRuntime) {
+    // six arrays: the borrow checker does not cover one of six whose parts are lent side by side
     let mut zero_least = [0u8; ARGUMENT_BYTES];
     let mut zero_most = [0u8; ARGUMENT_BYTES];
     let mut one_least = [0u8; ARGUMENT_BYTES];

@@ -20,6 +20,7 @@ pub fn read_full<R: Read>(input: &mut R, bytes: &mut [u8]) -> usize
     ensures read { Consumes (R.remaining input.old) (R.remaining input.new) (take result bytes.new) }
 {
     let mut done: usize = 0;
+    // no `for`: how far a turn comes is what its read says
     while done < bytes.len() {
         let count = read_some(input, &mut bytes[done..]);
         if count == 0 {
