@@ -44,7 +44,10 @@ fn check_cmr(regs: Registers, waiting: usize, v: u8) -> Result<(), Refusal>
     let offer = v == CMR_OFFER;
     let listed = request | offer | (v == CMR_CLEAR_SLRE) | (v == CMR_COPY_LOCK);
     refuse_if(!listed, Refusal::UnlistedValue)?;
-    refuse_if((request | offer) & (regs.marq | regs.strq), Refusal::OutOfTurn)?;
+    refuse_if(
+        (request | offer) & (regs.marq | regs.strq),
+        Refusal::OutOfTurn,
+    )?;
     let sends = (request & writes(regs.control)) | offer;
     refuse_if(sends & (waiting < 2), Refusal::TooFew)?;
     let to_itself = request & regs.bit & (regs.slave == regs.own);
@@ -57,7 +60,10 @@ fn check_uar(regs: Registers, listed: bool) -> Result<(), Refusal>
     ensures { result ≡ uar_refusal regs listed }
 {
     refuse_if(!listed, Refusal::UnlistedValue)?;
-    refuse_if(regs.marq | regs.strq | regs.slre | regs.locked, Refusal::OutOfTurn)
+    refuse_if(
+        regs.marq | regs.strq | regs.slre | regs.locked,
+        Refusal::OutOfTurn,
+    )
 }
 
 // SAR and MCR with MARQ.
