@@ -36,7 +36,12 @@ function sources(words,    list, n, i, forms, f, told, all) {
 FNR == 1 { type = ""; text = "" }
 /^ghost use / { taken($0); next }
 { sub(/^[ \t]*\/\/.*/, "") }
-/^impl / { type = $2 "::" }
+/^impl[ <]/ {
+    type = $0
+    sub(/^impl *(<[^>]*>)? */, "", type)
+    sub(/[^A-Za-z0-9_].*/, "::", type)
+}
+/^impl[ <].*[{][}]/ { type = "" }
 /^}/ { type = "" }
 /^ *pub (extern "C" )?fn / || (program && /^ *fn /) {
     name = $0

@@ -71,7 +71,9 @@ function module(path, file, dir, open,    line, type, name, status) {
     while ((status = (getline line < file)) > 0) {
         sub(/\/\/.*/, "", line)
         sub(/^[ \t]*#\[[^]]*\][ \t]*/, "", line)
-        if (line ~ /^impl[ <]/) {
+        if (line ~ /^impl[ <].*[{][}]/)
+            type = ""
+        else if (line ~ /^impl[ <]/) {
             sub(/^impl *(<[^>]*>)? */, "", line)
             type = word_behind(line, "^")
         } else if (line ~ /^[}]/)

@@ -44,10 +44,8 @@ fn check_cmr(regs: Registers, waiting: usize, v: u8) -> Result<(), Refusal>
     let offer = v == CMR_OFFER;
     let listed = request | offer | (v == CMR_CLEAR_SLRE) | (v == CMR_COPY_LOCK);
     refuse_if(!listed, Refusal::UnlistedValue)?;
-    refuse_if(
-        (request | offer) & (regs.marq | regs.strq),
-        Refusal::OutOfTurn,
-    )?;
+    let busy = regs.marq | regs.strq;
+    refuse_if((request | offer) & busy, Refusal::OutOfTurn)?;
     let sends = (request & writes(regs.control)) | offer;
     refuse_if(sends & (waiting < 2), Refusal::TooFew)?;
     let to_itself = request & regs.bit & (regs.slave == regs.own);
