@@ -5,4 +5,3 @@ pub mod Filled
 pub mod Places
 pub mod Placed
 pub mod First
-pub mod Looked

@@ -2,5 +2,4 @@
 pub mod Windows
 pub mod Peaks
 pub mod Relied
-pub mod Called
 pub mod Example

@@ -1,5 +1,6 @@
 -- The laws of a log: of its frames, of a frame's fields and data, of the marks, and what a user relies on.
 pub mod Frames
+pub mod Stray
 pub mod Fields
 pub mod Data
 pub mod Readings

@@ -1,12 +1,13 @@
 // A log of a line: what the slot words of a whole line say, frame by frame, to a reader that belongs to no address. The
 // frames of a list, the fields of a frame and the record of each are definitions (`specs/`), and so are the laws that a
-// user relies on (`proofs/`). Of code there is only what a refusal is called: `reader` is the code.
+// user relies on (`proofs/`). Of code there is only what is refused, and by which number: `reader` is the code.
 #![tactic(auto)]
 
 ghost use Rattle.std.specs.Prelude.{◌≡◌};
+ghost use Rattle.logs.specs.Frames.{stray_in};
 ghost use Rattle.logs.specs.Log.{refusal_of};
 
-use line::numbers::{REFUSED_NO_SLOT, REFUSED_SHORT_LIST};
+use line::numbers::{REFUSED_NO_SLOT, REFUSED_SHORT_LIST, SLOT_IDLE};
 use std::error::Error;
 use std::fmt;
 
@@ -39,3 +40,14 @@ impl fmt::Display for LogError {
 }
 
 impl Error for LogError {}
+
+// Whether some word is no slot word. To look at every word and test once is cheaper than a test of each.
+pub fn strays(slots: &[u32]) -> bool
+    ensures { result ≡ stray_in slots.now }
+{
+    let mut found = false;
+    for slot in slots {
+        found |= SLOT_IDLE < *slot;
+    }
+    found
+}

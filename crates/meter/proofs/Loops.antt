@@ -1,32 +1,20 @@
 -- What each loop over the slots keeps from turn to turn.
-use mathlib.Core.Bool.{Bool, ◌||◌}
 use mathlib.Core.Logic.{⊎_elim}
 use mathlib.Core.List.{List, [], ◌∷◌, ◌++◌}
-use mathlib.Core.Path.{◌≡◌, refl, sym, ap}
+use mathlib.Core.Path.{◌≡◌, sym}
 use Prim.Native.Nat.{ℕ, ◌+◌, ◌-◌, ◌<◌, ◌≤◌}
 use native.Mathlib.Numerals.{add-one}
 use native.Mathlib.Omega.{arith}
 use borrow.Author.Tests.{le-ltb, lt-ltb}
-use lib.Dec.{ltb}
 use lib.ListN.{drop, get_or, length, set}
 use Rattle.line.proofs.Either.{below_or_not}
 use Rattle.line.proofs.Placed.{Placed, all_placed, none_placed, one_placed, placed_length}
-use Rattle.line.specs.Numbers.{slot_idle}
 use Rattle.line.specs.Places.{placed}
-use Rattle.logs.specs.Frames.{stray_in}
 use Rattle.loads.proofs.Peaks.{Most, most_kept, most_new, most_none}
 use Rattle.loads.specs.Figures.{busy, figure_at, figures_of}
 use Rattle.loads.specs.declared.Peak.{Peak}
-use Rattle.std.specs.List.{list_any}
 use Rattle.meter.specs.Counting.{count_at, higher_of, leaving_at}
 use Rattle.meter.proofs.Counting.{count_most, count_none, count_step}
-
--- ---- strays: a word that is no slot word, among some
-
-pub any_stray : (ws : List ℕ) → list_any (ltb slot_idle) ws ≡ stray_in ws
-unfolding stray_in
-any_stray [] = refl
-any_stray (w ∷ ws) = ap (λ (b : Bool). ltb slot_idle w || b) (any_stray ws)
 
 -- ---- put_figures: i slots have their figures
 

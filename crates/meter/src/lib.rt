@@ -13,22 +13,12 @@ ghost use Rattle.meter.specs.Counting.{higher_of, leaving_at};
 
 use line::numbers::{MOST_WINDOW, SLOT_IDLE};
 use loads::{LoadError, Peak};
+use logs::strays;
 
 fn bad_window(w: u32) -> bool
     ensures { result ≡ bad_window w }
 {
     !(1..=MOST_WINDOW).contains(&w)
-}
-
-// Whether some word is no slot word. To look at every word and test once is cheaper than a test of each.
-fn strays(slots: &[u32]) -> bool
-    ensures { result ≡ stray_in slots.now }
-{
-    let mut found = false;
-    for slot in slots {
-        found |= SLOT_IDLE < *slot;
-    }
-    found
 }
 
 fn busy(slot: u32) -> u32

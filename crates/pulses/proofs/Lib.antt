@@ -2,5 +2,4 @@
 pub mod Ranges
 pub mod Symbols
 pub mod Relied
-pub mod Called
 pub mod Example

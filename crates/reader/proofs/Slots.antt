@@ -1,6 +1,5 @@
 -- What each loop over the slots of a log keeps from turn to turn.
-use mathlib.Core.Bool.{true, false, true≢false}
-use mathlib.Core.Logic.{◌⊎◌, inl, inr, ⊎_elim}
+use mathlib.Core.Logic.{⊎_elim}
 use mathlib.Core.Path.{◌≡◌, refl, sym, ap, ◌∙◌}
 use mathlib.Core.List.{List, [], ◌∷◌, ◌++◌, append_assoc, append-nil}
 use Prim.Native.Nat.{ℕ, zero, suc, ◌+◌, ◌*◌, ◌-◌, ◌^◌, ◌<◌, ◌≤◌}
@@ -10,15 +9,13 @@ use native.Mathlib.Omega.{arith}
 use borrow.Author.Count.{below_more}
 use borrow.Author.Tests.{le-ltb, lt-ltb, ne_eqb}
 use lib.Bits.{and_le_l, and_le_r, bit_or, or_add_and, or_lt}
-use lib.Dec.{ltb}
 use lib.ListN.{get_or-eq_default, drop, drop_of_length-le, get_or, length, length-take, take}
 use lib.Seq.{get_or-drop, get_or-take, slice, take-suc}
-use Rattle.line.proofs.Either.{below_or_not, either}
+use Rattle.line.proofs.Either.{below_or_not}
 use Rattle.line.proofs.Places.{cut}
-use Rattle.line.specs.Numbers.{slot_idle, slot_start}
-use Rattle.logs.proofs.Frames.{none_stray, stray_found}
+use Rattle.line.specs.Numbers.{slot_start}
 use Rattle.logs.specs.Fields.{number_from}
-use Rattle.logs.specs.Frames.{Low, frames_of, levels_from, stray_in}
+use Rattle.logs.specs.Frames.{Low, frames_of, levels_from}
 use Rattle.reader.proofs.Parts.{part, slice_more}
 use Rattle.reader.specs.Reading.{LevelsAhead, LevelsEnd, Overlaid, Within}
 
@@ -36,29 +33,6 @@ overlaid_one {words} {digits} {i} o =
       fits = λ width low. or_lt width digits word (o.fits width (λ k before. low k (omega arith)))
           (low i (omega arith));
     }
-
--- ---- strays
-
-pub stray_seen : {slots : List ℕ} {digits : ℕ} → Overlaid slots (length slots) digits
-    → ltb slot_idle digits ≡ stray_in slots
-stray_seen {slots} {digits} o =
-    ⊎_elim
-    (λ (low : digits < 4). le-ltb slot_idle digits (omega arith)
-    ∙ sym (none_stray slots (λ k.
-    ⊎_elim (λ (inside : k < length slots). omega (arith, o.most k inside))
-    (λ (over : length slots ≤ k). rw (get_or-eq_default slots 0 over) (omega arith))
-    (below_or_not k (length slots)))))
-    (λ (high : 4 ≤ digits). lt-ltb slot_idle digits (omega arith) ∙ sym (seen high (either (stray_in slots))))
-    (below_or_not digits 4)
-  where
-    seen : 4 ≤ digits → (stray_in slots ≡ true) ⊎ (stray_in slots ≡ false) → stray_in slots ≡ true
-    seen high (inl stray) = stray
-    seen high (inr none) =
-        let low : (k : ℕ) → k < length slots → get_or slots k 0 < 2 ^ 2 =
-        λ k inside. ⊎_elim (λ low. low)
-        (λ stray. absurd (true≢false (sym (stray_found slots k (omega arith)) ∙ none)))
-        (below_or_not (get_or slots k 0) 4) in
-        let over : ⊥ = omega (arith, o.fits 2 low) in absurd over
 
 -- ---- next_start
 

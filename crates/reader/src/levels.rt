@@ -1,11 +1,11 @@
 // The slots of a log: which words are none, where a frame begins and where its levels end, and the number that some of
 // its levels make.
 ghost use Rattle.std.specs.Prelude.{true, ◌≡◌, ◌+◌, ◌^◌, ◌<◌, ◌≤◌, [], drop, length, MatchOption};
-ghost use Rattle.logs.specs.Frames.{Low, frames_of, stray_in};
+ghost use Rattle.logs.specs.Frames.{Low, frames_of};
 ghost use Rattle.logs.specs.Fields.{number_from};
 ghost use Rattle.reader.specs.Reading.{LevelsAhead, LevelsEnd, NextStart, Overlaid};
 
-use line::numbers::{SLOT_HIGH, SLOT_IDLE, SLOT_START};
+use line::numbers::{SLOT_HIGH, SLOT_START};
 
 // Words laid over each other: the result has each binary digit that one of them has, so it is below a power of two
 // exactly if all of them are. To look at every word and test once is cheaper than a test of each.
@@ -17,13 +17,6 @@ fn overlaid(words: &[u32]) -> u32
         digits |= *word;
     }
     digits
-}
-
-// Whether some word is no slot word.
-pub(crate) fn strays(slots: &[u32]) -> bool
-    ensures { result ≡ stray_in slots.now }
-{
-    SLOT_IDLE < overlaid(slots)
 }
 
 // The place of the first start from a place on.

@@ -17,9 +17,9 @@ ghost use Rattle.logs.specs.Log.{ReadLog};
 ghost use Rattle.logs.specs.Relied.{Relied};
 ghost use Rattle.logs.specs.Records.{records_of, words_of};
 
-use crate::levels::{levels_end, next_start, strays};
+use crate::levels::{levels_end, next_start};
 use crate::record::put_record;
-use logs::LogError;
+use logs::{LogError, strays};
 
 // Writes the record of every frame, one behind the other; the number says how many there are.
 fn put_records(long: bool, slots: &[u32], records: &mut [u32]) -> usize

@@ -3,7 +3,7 @@ use lib.Dec.{ltb}
 use lib.ListN.{take}
 use Rattle.line.specs.Numbers.{slot_idle}
 use Rattle.std.specs.List.{list_any}
-use Rattle.meter.proofs.strays.Given as goal
+use Rattle.logs.proofs.strays.Given as goal
 
 abbrev pub invariant-loop-slot : goal.invariant-loop-slot
 invariant-loop-slot l = l.found ≡ list_any (ltb slot_idle) (take l.slot-index l.slots)

@@ -4,8 +4,8 @@ use lib.Dec.{ltb}
 use lib.Seq.{take_all}
 use Rattle.line.specs.Numbers.{slot_idle}
 use Rattle.std.specs.List.{list_any}
-use Rattle.meter.proofs.Loops.{any_stray}
-use Rattle.meter.proofs.strays.Goals as goal
+use Rattle.logs.proofs.Stray.{any_stray}
+use Rattle.logs.proofs.strays.Goals as goal
 
 pub returns : goal.returns
 returns c =
