@@ -12,7 +12,10 @@ use Rattle.line.specs.declared.slot.Slot.{Slot}
 use Rattle.line.specs.declared.slot.Slot.TheVariants.{Level, Start, Idle}
 use Rattle.line.proofs.Either.{either}
 use Rattle.lent.specs.Both.{after_done, after_host, after_read, after_slot, after_word, after_write}
-use Rattle.lent.specs.Both.{Both, Runs, Works, buffers_in, left_as, left_by, loan_in, looked_in, reply_to, state_in}
+use Rattle.lent.specs.Both.{Both, Runs, Works, buffers_in, left_as, left_by, loan_in, looked_in, state_in}
+use Rattle.lent.specs.Both.{answer_to, lent_by}
+use Rattle.rules.specs.Answers.{Answer}
+use Rattle.std.specs.Prelude.{Result}
 use Rattle.lent.specs.declared.step.Answered.{Answered}
 use Rattle.lent.specs.declared.step.Done.{Done}
 use Rattle.lent.specs.declared.step.Lent.{Lent}
@@ -26,7 +29,6 @@ use Rattle.rules.specs.State.{is_empty, reset}
 use Rattle.rules.specs.Answers.{Looked, fine}
 use Rattle.rules.specs.declared.answer.Refusal.{Refusal}
 use Rattle.rules.specs.declared.answer.Refusal.TheVariants.{StrayBit, UnknownKind}
-use Rattle.rules.specs.declared.answer.Reply.{Reply}
 use Rattle.std.specs.Prelude.{Some, None, Ok, Err}
 use Rattle.rules.specs.Step.{answer_of, clashes, next_drive, slot_on, slot_said, step_of}
 
@@ -146,9 +148,11 @@ runs {u} {w} {t} {t'} {r} {r'} {a} sent stored word =
           (sym (word ft fr)) (word_circles (state_in u t r) w (buffers_in u t r));
     }
 
--- the answer to an accepted word, from what it came to and what is then driven
-pub runs_done : {u : Lent} {w : ℕ} {t t' r r' : List ℕ} (d : Done) (drive : ℕ) (reply : Reply)
-    → Works u w t t' r r' (Ok d) → drive ≡ next_drive (state_in d.lent t' r') → reply ≡ reply_to d.outcome drive
-    → Runs u w t t' r r' (record { lent = d.lent; answer = Ok reply })
-runs_done d drive reply (sent, stored, word) driven said =
+-- the answer, from what the word came to and what is then driven
+pub runs_came : {u : Lent} {w : ℕ} {t t' r r' : List ℕ} (came : Result Done Refusal) (drive : ℕ) (answer : Answer)
+    → Works u w t t' r r' came → drive ≡ next_drive (state_in (lent_by u came) t' r') → answer ≡ answer_to came drive
+    → Runs u w t t' r r' (record { lent = lent_by u came; answer = answer })
+runs_came (Ok d) drive answer (sent, stored, word) driven said =
     runs sent stored (λ ft fr. rw (said, driven) (word ft fr))
+runs_came (Err refusal) drive answer (sent, stored, word) driven said =
+    runs sent stored (λ ft fr. rw said (word ft fr))

@@ -96,6 +96,15 @@ abbrev pub both_in : Lent → Result Done Refusal → List ℕ → List ℕ → 
 both_in u (Ok d) t r = done_in d t r
 both_in u (Err refusal) t r = refused_in (loan_in u t r) refusal
 
+-- the unit that is left, and the answer, with what it then drives
+abbrev pub lent_by : Lent → Result Done Refusal → Lent
+lent_by u (Ok d) = d.lent
+lent_by u (Err refusal) = u
+
+abbrev pub answer_to : Result Done Refusal → ℕ → Answer
+answer_to (Ok d) drive = Ok (reply_to d.outcome drive)
+answer_to (Err refusal) drive = Err refusal
+
 -- what it comes to where something may be found against it
 abbrev pub looked_in : Loan → Looked → Both → Both
 looked_in l (Ok x) both = both

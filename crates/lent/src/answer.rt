@@ -1,8 +1,9 @@
-// What an accepted word is answered.
+// What a word is answered.
 ghost use Rattle.std.specs.Prelude.{◌≡◌};
-ghost use Rattle.lent.specs.Both.{reply_to};
+ghost use Rattle.lent.specs.Both.{answer_to, reply_to};
 
-use rules::answer::Reply;
+use crate::step::Done;
+use rules::answer::{Answer, Refusal, Reply};
 
 // What an accepted word came to: its answer, but for what the unit drives next.
 #[derive(Clone, Copy)]
@@ -13,8 +14,7 @@ pub(crate) enum Outcome {
 }
 
 impl Outcome {
-    // The answer, with what the unit then drives.
-    pub(crate) fn reply(self, drive: u8) -> Reply
+    fn reply(self, drive: u8) -> Reply
         ensures { result ≡ reply_to self drive }
     {
         match self {
@@ -22,5 +22,15 @@ impl Outcome {
             Outcome::Written => Reply::Written(drive),
             Outcome::Read(value) => Reply::Read(value, drive),
         }
+    }
+}
+
+// The answer to a word, from what it came to and what the unit then drives.
+pub(crate) fn answer_to(came: Result<Done, Refusal>, drive: u8) -> Answer
+    ensures { result ≡ answer_to came drive }
+{
+    match came {
+        Ok(done) => Ok(done.outcome.reply(drive)),
+        Err(refusal) => Err(refusal),
     }
 }

@@ -1,9 +1,9 @@
 // A unit whose buffers are lent, and what it makes of every word.
 ghost use Rattle.std.specs.Prelude.{◌≡◌};
 ghost use Rattle.lent.specs.Both.{Acts, Clashes, Drives, Runs, Sees, SlotActs, SlotRefuses, SlotsOn};
-ghost use Rattle.lent.specs.Both.{Works, done, reset_lent};
+ghost use Rattle.lent.specs.Both.{Works, done, lent_by, reset_lent};
 
-use crate::answer::Outcome;
+use crate::answer::{Outcome, answer_to};
 use crate::buffers::{count_of, front, is_clear, rbf_after, tbf_after};
 use crate::plain::plain;
 use circles::Span;
@@ -153,6 +153,16 @@ impl Lent {
         self.slot(slot, tbf, rbf)
     }
 
+    // The unit that a word leaves: one that is refused leaves it as it was.
+    fn left_by(self, came: Result<Done, Refusal>) -> Lent
+        ensures { result ≡ lent_by self came }
+    {
+        match came {
+            Ok(done) => done.lent,
+            Err(_) => self,
+        }
+    }
+
     // The unit after a word, and what it is answered; its buffers are lent, and of these no place is written but where
     // a byte comes in.
     pub fn step(self, word: u32, tbf: &mut [u8; TBF_BYTES], rbf: &mut [u8; RBF_BYTES]) -> Answered
@@ -164,15 +174,12 @@ impl Lent {
         if (word <= SLOT_HIGH) & self.agrees(word) {
             return self.agreed(word == SLOT_HIGH);
         }
-        match self.word(word, tbf, rbf) {
-            Ok(done) => Answered {
-                lent: done.lent,
-                answer: Ok(done.outcome.reply(done.lent.drive())),
-            },
-            Err(refusal) => Answered {
-                lent: self,
-                answer: Err(refusal),
-            },
+        // A refused word goes the same way on: with one of its own, a list run of slots takes more than twice as long.
+        let came = self.word(word, tbf, rbf);
+        let lent = self.left_by(came);
+        Answered {
+            lent,
+            answer: answer_to(came, lent.drive()),
         }
     }
 }

@@ -1,6 +1,6 @@
 use mathlib.Core.Path.{refl, sym, ◌∙◌}
 use Rattle.line.proofs.Either.{both}
-use Rattle.lent.proofs.Joins.{runs, runs_done}
+use Rattle.lent.proofs.Joins.{runs, runs_came}
 use Rattle.lent.proofs.Listening.{agreed_word, plain_word}
 use Rattle.lent.specs.Both.{loan_in}
 use Rattle.lent.proofs.step.Lent.step.Goals as goal
@@ -19,11 +19,8 @@ returns-then-word-agrees c =
     runs refl refl (λ ft fr. c.agreed.ensures c.args.tbf.now c.args.rbf.now
     ∙ agreed_word (loan_in c.args.self c.args.tbf.now c.args.rbf.now) c.args.word tests.0 met.0 met.1)
 
-pub returns-in-Ok : goal.returns-in-Ok
-returns-in-Ok c =
-    runs_done c.in-Ok.done _ _ c.in-Ok.ensures (c.drive.ensures _ _) c.reply.ensures
-
--- "A refusal changes no state"
-pub returns-in-Err : goal.returns-in-Err
-returns-in-Err c =
-    runs c.in-Err.ensures.0 c.in-Err.ensures.1 c.in-Err.ensures.2
+pub returns : goal.returns
+returns c =
+    rw c.left_by-lent.ensures
+    (runs_came c.word-came.result _ _ c.word-came.ensures
+    (rw c.left_by-lent.ensures at (c.drive.ensures c.word-came.new.tbf c.word-came.new.rbf)) c.answer_to.ensures)
