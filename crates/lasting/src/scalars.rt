@@ -108,7 +108,7 @@ fn place_bytes(place: Place) -> [u8; 2]
     }
 }
 
-// A number past the last field counts as waiting.
+// A number past the last field counts as waiting. No From, as above: neither type is of this crate.
 #[tactic(auto, unfolding(keeping::specs::Decode::place_of))]
 fn place_of(number: u8, n: u8) -> Place
     ensures { result ≡ place_of number n }

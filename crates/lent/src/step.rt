@@ -23,7 +23,8 @@ pub struct Lent {
     pub rbf: Span,
 }
 
-// What a step hands back where the buffers are lent: they are changed in place.
+// What a step hands back where the buffers are lent: they are changed in place. No Result: a unit is left either way,
+// and a list goes on from it.
 #[derive(Clone, Copy)]
 pub struct Answered {
     pub lent: Lent,
@@ -164,7 +165,8 @@ impl Lent {
     }
 
     // The unit after a word, and what it is answered; its buffers are lent, and of these no place is written but where
-    // a byte comes in.
+    // a byte comes in. They are lent one by one, down to the functions that read or write one of them: so a signature
+    // says which bytes a function can reach, as one struct of both would not.
     pub fn step(self, word: u32, tbf: &mut [u8; TBF_BYTES], rbf: &mut [u8; RBF_BYTES]) -> Answered
         ensures { Runs self word tbf.old tbf.new rbf.old rbf.new result }
     {

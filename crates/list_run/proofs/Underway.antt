@@ -4,7 +4,7 @@ use mathlib.Core.List.{List, [], ◌∷◌, ◌++◌}
 use Prim.Native.Nat.{ℕ, ◌+◌, ◌≤◌, ◌<◌}
 use native.Mathlib.Omega.{arith}
 use lib.ListN.{length, drop, get_or, set, drop_of_length-le}
-use Rattle.line.proofs.Filled.{Filled, nothing_filled, one_filled, all_filled}
+use Rattle.line.proofs.Filled.{Filled, one_filled, all_filled}
 use Rattle.line.proofs.Places.{cut}
 use Rattle.isolation.specs.Runs.{run, answers}
 use Rattle.lent.specs.Both.{Left, Runs, state_in}
@@ -39,9 +39,6 @@ pub record Underway (s₀ : State) (words first : List ℕ) (s : State) (now : L
   pub states : run unit s₀ words ≡ run unit s (drop i words)
   pub filled : Filled (answers unit s₀ words) first now (answers unit s (drop i words)) i
   pub within : i ≤ length words
-
-pub none_run : (s₀ : State) (words first : List ℕ) → Underway s₀ words first s₀ first 0
-none_run s₀ words first = record { states = refl; filled = nothing_filled _ _; within = omega arith }
 
 -- one word more: the state after it, and its answer at the next place
 pub one_run : {s₀ s : State} {words first now : List ℕ} {i : ℕ} → Underway s₀ words first s now i
@@ -94,10 +91,6 @@ pub record UnderwayIn (v₀ : Unit) (words first : List ℕ) (u : Lent) (t r now
   pub ran : Underway (state_of v₀) words first (state_in u t r) now i
   pub lent : Whole t r
   pub units : unit_over v₀ words ≡ unit_over (unit_in u t r) (drop i words)
-
-pub none_run_in : (u : Lent) (words first t r : List ℕ) → Whole t r
-    → UnderwayIn (unit_in u t r) words first u t r first 0
-none_run_in u words first t r whole = record { ran = none_run _ _ _; lent = whole; units = refl }
 
 pub one_run_in : {v₀ : Unit} {words first now t t' r r' : List ℕ} {i : ℕ} {u : Lent} {a : Answered}
     → UnderwayIn v₀ words first u t r now i → i < length words → length words ≤ length first

@@ -29,6 +29,7 @@ fn put_word(bytes: &mut [u8], at: usize, word: u32)
 }
 
 // The words that bytes spell, run in order by a unit whose buffers are lent; what stands past the last answer is kept.
+// A loop of its own beside that of `run`: words there are places of a u32 slice, and four bytes here.
 fn run_spelled(
     mut lent: Lent,
     words: &[u8],

@@ -21,7 +21,7 @@ pub struct Unit {
     pub rbf: Rbf,
 }
 
-// What a step hands back.
+// What a step hands back. No Result: a unit is left either way.
 #[derive(Clone, Copy)]
 pub struct Stepped {
     pub unit: Unit,
