@@ -3,7 +3,7 @@
 #
 #   awk -f tests/contract.awk crates/NAME/src/*.rt
 #
-# With `-v program=1` that of each function with an `ensures`, public or not: a program has none that is public.
+# With `-v program=1` that of each function with an `ensures`, public or not: a program has none that a library has.
 
 # `ghost use PATH.{NAMES};`: where each name is from, in this file
 function taken(line,    path, list, n, i, part) {
@@ -43,7 +43,7 @@ FNR == 1 { type = ""; text = "" }
 }
 /^impl[ <].*[{][}]/ { type = "" }
 /^}/ { type = "" }
-/^ *pub (extern "C" )?fn / || (program && /^ *fn /) {
+/^ *pub (extern "C" )?fn / || (program && /^ *(pub\(crate\) )?fn /) {
     name = $0
     sub(/^.*fn /, "", name)
     sub(/[^A-Za-z0-9_].*/, "", name)

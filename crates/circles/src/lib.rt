@@ -8,7 +8,8 @@ ghost use Rattle.std.specs.Prelude.{◌≡◌, ◌+◌, ◌<◌, ◌≤◌};
 ghost use Rattle.circles.specs.Circle.{held_of, start_of, wrap};
 
 // The place of the oldest byte, and how many there are, going round at the end. A count over the room counts as full,
-// and a first place past the end as place 0, so that every value is a span.
+// and a first place past the end as place 0, so that every value is a span. It lies
+// apart from the bytes, which are lent: a word changes few of them, and copying them all took most of its time.
 #[derive(Clone, Copy)]
 pub struct Span {
     pub first: usize,

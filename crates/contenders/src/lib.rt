@@ -57,7 +57,7 @@ impl fmt::Display for ContestError {
 impl Error for ContestError {}
 
 // What document 01 says for a contest that names the winner's place or is refused: the refusal's number, 0 where there
-// is none, and the place named, 0 where none is.
+// is none, and the place named, 0 where none is: as a host in C reads them, off one number.
 #[derive(Clone, Copy, Debug, PartialEq, Eq)]
 pub struct Verdict {
     pub number: u8,

@@ -25,7 +25,8 @@ fn number(contender: Contender) -> u32
     u32::from(contender.bit) * 4096 + u32::from(contender.address)
 }
 
-// The slot in which a contender first differs from the winner, so in which it loses; 0 where it never does.
+// The slot in which a contender first differs from the winner, so in which it loses; 0 where it never does, as
+// the number list has it.
 #[tactic(auto, unfolding(line::specs::Parity::level_of))]
 fn lost_in(winner: u32, number: u32) -> u32
     ensures { result ≡ differs 13 winner number }

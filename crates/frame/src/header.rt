@@ -127,6 +127,8 @@ fn slave_judged(frame: Frame, n: u8, bit: bool, own: u16) -> Moved
     go_on(with_slave(frame, mine), Field::Slave, n, frame.leads | mine)
 }
 
+// This and the functions of the other fields with a P and an A go alike, and are no one function: the paper has them one
+// by one, each with its width, its judgement and what follows, all of which would be handed over.
 #[tactic(auto, unfolding(place::specs::Step::at_slave))]
 pub(crate) fn at_slave(frame: Frame, n: u8, bit: bool, own: u16) -> Moved
     ensures { result ≡ at_slave frame n bit own }

@@ -11,7 +11,7 @@ mod input;
 
 pub use input::{argument, read_full};
 
-// Kept, though `min` is the same: other crates call it, and two edits are refused by what it promises.
+// Kept, though `min` is the same: it is public, and two edits are refused by what it promises.
 pub fn least(a: usize, b: usize) -> usize
     ensures { result ≡ min a b }
 {

@@ -43,7 +43,8 @@ pub struct Frame {
     pub ack: bool,
     // this unit is a master in the frame, took part from the start slot and has not lost
     pub leads: bool,
-    // this unit sends the length and the data
+    // this unit sends the length and the data. The byte is no Option behind it, since the bytes that a host keeps can
+    // have both, and give them back (`decoded`)
     pub sends: bool,
     // the length or the byte that it sends
     pub byte: u8,
@@ -62,6 +63,7 @@ pub struct View {
     pub strq: bool,
     // SLRE is set and RBF is empty
     pub ready: bool,
+    // as in the registers, of which this is seen: two, and no Option
     pub locked: bool,
     pub holder: u16,
 }

@@ -1,6 +1,6 @@
 // Measured pulses: which slot each becomes, and what is refused. A card that captures the line gives a pulse's width as
 // a least and a most tick count; what becomes of it is said by definitions (`specs/`), with the laws that a user relies
-// on (`proofs/`). The code is `capture`, which refuses with the error that stands here.
+// on (`proofs/`). The code is `capture`, but for a range in its word and the error that stands here.
 #![tactic(auto)]
 
 ghost use Rattle.std.specs.Prelude.{◌≡◌};

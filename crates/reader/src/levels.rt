@@ -1,5 +1,4 @@
-// The slots of a log: which words are none, where a frame begins and where its levels end, and the number that some of
-// its levels make.
+// The slots of a log: where a frame begins and where its levels end, and the number that some of its levels make.
 ghost use Rattle.std.specs.Prelude.{true, ◌≡◌, ◌+◌, ◌^◌, ◌<◌, ◌≤◌, [], drop, length, MatchOption};
 ghost use Rattle.logs.specs.Frames.{Low, frames_of};
 ghost use Rattle.logs.specs.Fields.{number_from};
@@ -49,7 +48,7 @@ pub(crate) fn levels_end(slots: &[u32], from: usize) -> usize
     requires { from ≤ length slots.now }
     ensures { LevelsEnd slots.now from result }
 {
-    // a `for` over pieces of eight would need the place beside it
+    // by hand: pieces of eight would be cut from the place, counted, and the place worked out again for the rest
     let mut i = from;
     while eight_levels(slots, i) {
         i += 8;

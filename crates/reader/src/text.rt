@@ -55,7 +55,7 @@ fn text_ending(missing: u32, left: u32, cut: bool) -> Ending
 
 // Writes the ACKed bytes of a frame that has data, each with its attempts, from a place of the records on. A list and a
 // place, here and in `put_record`, and no part of the list: the bytes of the frame before are compared in it.
-// Many frames have no data, and without this they take fewer instructions.
+// Many frames have no data, and take fewer instructions where this is not inlined.
 #[inline(never)]
 pub(crate) fn put_text(
     levels: &[u32],
