@@ -1,6 +1,7 @@
 -- The figures of document 01 and of the tickets, each named once for the definitions of every library. src/numbers.rt
 -- names them for the code; a proof that uses a figure fails where the two differ.
-use Rattle.std.specs.Prelude.{ℕ}
+use Rattle.std.specs.Prelude.{ℕ, Bool}
+use Rattle.line.specs.Choice.{pick}
 
 -- Words: the kind is in the top four bits, "0, slot", "1, register write", "2, register read", then the answers
 abbrev pub kind_slot : ℕ
@@ -128,6 +129,10 @@ attempts_mode0 = 16
 
 abbrev pub attempts_mode1 : ℕ
 attempts_mode1 = 32
+
+-- .. in mode 1 where it is `long`
+abbrev pub attempts_of : Bool → ℕ
+attempts_of long = pick long attempts_mode1 attempts_mode0
 
 abbrev pub general_broadcast : ℕ
 general_broadcast = 0xFFF

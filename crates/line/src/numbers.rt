@@ -1,5 +1,7 @@
 // The figures of document 01 and of the tickets, each named once for the code of every library. `specs/Numbers.antt`
 // names them for the definitions; a proof that uses a figure fails where the two differ.
+ghost use Rattle.std.specs.Prelude.{◌≡◌};
+ghost use Rattle.line.specs.Numbers.{attempts_of};
 
 // Words: the kind is in the top four bits, "0, slot", "1, register write", "2, register read", then the answers.
 pub const KIND_SLOT: u32 = 0;
@@ -87,6 +89,17 @@ pub const LENGTH_OF_ZERO: u16 = 256;
 pub const ATTEMPTS_MODE_0: u8 = 16;
 
 pub const ATTEMPTS_MODE_1: u8 = 32;
+
+// How many attempts a frame can have, in mode 1 where it is `long`.
+pub fn attempts(long: bool) -> u8
+    ensures { result ≡ attempts_of long }
+{
+    if long {
+        ATTEMPTS_MODE_1
+    } else {
+        ATTEMPTS_MODE_0
+    }
+}
 
 pub const GENERAL_BROADCAST: u16 = 0xFFF;
 

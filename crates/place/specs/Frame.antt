@@ -1,7 +1,7 @@
 -- Document 01, "Frame": the place of a unit in a frame, and what it keeps of the frame under way.
 use Rattle.std.specs.Prelude.{ℕ, ◌+◌, ◌*◌, ◌%◌, Bool, false, eqb}
 use Rattle.line.specs.Choice.{pick, bit_of, ◌▹◌}
-use Rattle.line.specs.Numbers.{attempts_mode0, attempts_mode1, length_of_zero}
+use Rattle.line.specs.Numbers.{attempts_of, length_of_zero}
 use Rattle.place.specs.Set.{frame·place, frame·shift, frame·leads, frame·limit, frame·byte, frame·length}
 use Rattle.place.specs.declared.Field.{Field}
 use Rattle.place.specs.declared.Field.TheVariants.{Broadcast, Master, Slave, Control, Length, Data}
@@ -20,7 +20,7 @@ width_of Data = 8
 
 -- "At most 16 attempts (mode 0) or 32 (mode 1) per frame"
 unfoldable pub limit_of : Bool → ℕ
-limit_of long = pick long attempts_mode1 attempts_mode0
+limit_of long = attempts_of long
 
 -- "Length 00H means 256."
 unfoldable pub length_of : ℕ → ℕ

@@ -7,8 +7,7 @@ ghost use Rattle.line.specs.Choice.{bit_of, pick};
 ghost use Rattle.line.specs.Numbers.{ctr_set_slre};
 ghost use Rattle.rules.specs.Registers.{commanded, flg_byte, lor_copied, mcr_written, rcr_byte, read_value, requested};
 ghost use Rattle.rules.specs.Registers.{str_byte, uar1_written, written};
-ghost use Rattle.rules.specs.Set.{registers·lor1, registers·lor2, registers·own, registers·slave, registers·slre};
-ghost use Rattle.rules.specs.Set.{registers·strq};
+ghost use Rattle.rules.specs.Set.{registers·slre};
 ghost use Rattle.rules.specs.State.{reset_core, reset_registers};
 
 use line::numbers::{
@@ -18,14 +17,6 @@ use line::numbers::{
 };
 use rules::state::{Core, Registers};
 
-fn with_lor(mut regs: Registers, lor1: u8, lor2: u8) -> Registers
-    ensures { result ≡ registers·lor2 lor2 (registers·lor1 lor1 regs) }
-{
-    regs.lor1 = lor1;
-    regs.lor2 = lor2;
-    regs
-}
-
 // "Copy the lock into LOR, zeros if unlocked"; "LOR1 (low 8), LOR2 (high half 0001 if locked; low half address high
 // 4)".
 #[tactic(auto, unfolding(rules::specs::Registers::lor_copied))]
@@ -33,11 +24,17 @@ fn lor_copied(regs: Registers) -> Registers
     ensures { result ≡ lor_copied regs }
 {
     if regs.locked {
-        let low = (regs.holder % 256) as u8;
-        let high = (regs.holder / 256 % 16) as u8;
-        return with_lor(regs, low, 16 + high);
+        return Registers {
+            lor1: (regs.holder % 256) as u8,
+            lor2: 16 + (regs.holder / 256 % 16) as u8,
+            ..regs
+        };
     }
-    with_lor(regs, 0, 0)
+    Registers {
+        lor1: 0,
+        lor2: 0,
+        ..regs
+    }
 }
 
 // A master request: "RDR1 is 0 at a master request"; losses are counted afresh.
@@ -51,20 +48,6 @@ fn request_made(mut regs: Registers) -> Registers
     regs
 }
 
-fn with_strq(mut regs: Registers) -> Registers
-    ensures { result ≡ registers·strq true regs }
-{
-    regs.strq = true;
-    regs
-}
-
-fn with_slre(mut regs: Registers, set: bool) -> Registers
-    ensures { result ≡ registers·slre set regs }
-{
-    regs.slre = set;
-    regs
-}
-
 // A command of CMR that is accepted.
 #[tactic(auto, unfolding(rules::specs::Registers::commanded))]
 fn command(regs: Registers, v: u8) -> Registers
@@ -72,53 +55,46 @@ fn command(regs: Registers, v: u8) -> Registers
 {
     match v {
         CMR_REQUEST => request_made(regs),
-        CMR_OFFER => with_strq(regs),
-        CMR_CLEAR_SLRE => with_slre(regs, false),
+        CMR_OFFER => Registers { strq: true, ..regs },
+        CMR_CLEAR_SLRE => Registers {
+            slre: false,
+            ..regs
+        },
         _ => lor_copied(regs),
     }
 }
 
-fn with_own(mut regs: Registers, own: u16) -> Registers
-    ensures { result ≡ registers·own own regs }
-{
-    regs.own = own;
-    regs
-}
-
-fn with_slave(mut regs: Registers, slave: u16) -> Registers
-    ensures { result ≡ registers·slave slave regs }
-{
-    regs.slave = slave;
-    regs
-}
-
 // "UAR1 (own address low 4 bits, then 0, 0, sending enabled, mode)".
 #[tactic(auto, unfolding(rules::specs::Registers::uar1_written))]
-fn uar1_written(mut regs: Registers, v: u8) -> Registers
+fn uar1_written(regs: Registers, v: u8) -> Registers
     ensures { result ≡ uar1_written regs v }
 {
-    regs.own = regs.own / 16 * 16 + (v / 16) as u16;
-    regs.enabled = v / 2 % 2 == 1;
-    regs.long = v % 2 == 1;
-    regs
+    Registers {
+        own: regs.own / 16 * 16 + u16::from(v / 16),
+        enabled: v / 2 % 2 == 1,
+        long: v % 2 == 1,
+        ..regs
+    }
 }
 
 // "MCR (broadcast bit as on the wire, retries 0 to 7, control)".
 #[tactic(auto, unfolding(rules::specs::Registers::mcr_written))]
-fn mcr_written(mut regs: Registers, v: u8) -> Registers
+fn mcr_written(regs: Registers, v: u8) -> Registers
     ensures { result ≡ mcr_written regs v }
 {
-    regs.bit = 0x80 <= v;
-    regs.retries = v / 16 % 8;
-    regs.control = v % 16;
-    regs
+    Registers {
+        bit: 0x80 <= v,
+        retries: v / 16 % 8,
+        control: v % 16,
+        ..regs
+    }
 }
 
 fn ctr_written(regs: Registers, v: u8) -> Registers
     ensures { result ≡ pick (eqb v ctr_set_slre) (registers·slre true regs) regs }
 {
     if v == CTR_SET_SLRE {
-        return with_slre(regs, true);
+        return Registers { slre: true, ..regs };
     }
     regs
 }
@@ -129,15 +105,24 @@ fn ctr_written(regs: Registers, v: u8) -> Registers
 pub fn write(regs: Registers, register: u8, v: u8) -> Registers
     ensures { result ≡ written regs register v }
 {
-    let half = (v / 16) as u16;
-    let byte = v as u16;
+    let half = u16::from(v / 16);
+    let byte = u16::from(v);
     match register {
         REG_CTR => ctr_written(regs, v),
         REG_CMR => command(regs, v),
         REG_UAR1 => uar1_written(regs, v),
-        REG_UAR2 => with_own(regs, byte * 16 + regs.own % 16),
-        REG_SAR1 => with_slave(regs, regs.slave / 16 * 16 + half),
-        REG_SAR2 => with_slave(regs, byte * 16 + regs.slave % 16),
+        REG_UAR2 => Registers {
+            own: byte * 16 + regs.own % 16,
+            ..regs
+        },
+        REG_SAR1 => Registers {
+            slave: regs.slave / 16 * 16 + half,
+            ..regs
+        },
+        REG_SAR2 => Registers {
+            slave: byte * 16 + regs.slave % 16,
+            ..regs
+        },
         _ => mcr_written(regs, v),
     }
 }

@@ -3,13 +3,13 @@
 #![tactic(auto)]
 
 ghost use Rattle.std.specs.Prelude.{◌≡◌};
-ghost use Rattle.place.specs.Frame.{begun_of, limit_of};
+ghost use Rattle.place.specs.Frame.{begun_of};
 ghost use Rattle.rules.specs.Slots.{on_idle, on_level, on_slot, on_start};
 
 use crate::endings::cut;
 use crate::events::on_event;
 use crate::state::acting;
-use line::numbers::{ATTEMPTS_MODE_0, ATTEMPTS_MODE_1};
+use line::numbers::attempts;
 use line::slot::Slot;
 use moves::none;
 use output::{takes_part, view};
@@ -20,27 +20,15 @@ mod endings;
 mod events;
 mod state;
 
-// "At most 16 attempts (mode 0) or 32 (mode 1)".
-#[tactic(auto, unfolding(place::specs::Frame::limit_of))]
-fn limit(long: bool) -> u8
-    ensures { result ≡ limit_of long }
-{
-    if long {
-        ATTEMPTS_MODE_1
-    } else {
-        ATTEMPTS_MODE_0
-    }
-}
-
 // "A start slot always begins a frame": whether the unit takes part as a master, and the mode then.
-#[tactic(auto, unfolding(place::specs::Frame::begun_of))]
+#[tactic(auto, unfolding(place::specs::Frame::begun_of, place::specs::Frame::limit_of))]
 fn begun(leads: bool, long: bool) -> Frame
     ensures { result ≡ begun_of leads long }
 {
     let mut frame = none();
     frame.place = Place::In(Field::Broadcast, 0);
     frame.leads = leads;
-    frame.limit = limit(long);
+    frame.limit = attempts(long);
     frame
 }
 
