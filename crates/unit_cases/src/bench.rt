@@ -1,6 +1,6 @@
 // A unit on a bench: the host that writes and reads its registers, the line that it shares with another party, and
 // the text that says what both do and what is to come of it, read character by character.
-use crate::slots::{driven, settled, slot_said, slot_word};
+use crate::shared::{driven, settled, slot_said, slot_word};
 use line::numbers::{KIND_READ, KIND_REFUSED, KIND_VALUE, KIND_WRITE, SLOT_START};
 use line::slot::Slot;
 

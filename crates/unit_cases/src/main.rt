@@ -5,7 +5,7 @@
 
 mod bench;
 mod listed;
-mod slots;
+mod shared;
 
 use crate::bench::Bench;
 use crate::listed::Listed;
