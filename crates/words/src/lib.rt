@@ -62,8 +62,8 @@ impl fmt::Display for LeftOver {
     }
 }
 
-// What is left over of so many bytes where at most so many are read, if anything is: `More` if any byte follows the last
-// that is read, else `Short` where they are no whole words.
+// What is left over of so many bytes where at most so many are read, if anything is: `More` if any byte follows the
+// last that is read, else `Short` where they are no whole words.
 #[tactic(auto, unfolding(crate::specs::Left::left_over_of))]
 pub fn left_over(bytes: usize, most: usize) -> Option<LeftOver>
     ensures { result ≡ left_over_of most bytes }
