@@ -13,8 +13,8 @@ use Rattle.logs.specs.Relied.{Relied}
 use Rattle.logs.specs.Records.{Record, byte_word, record_words, records_of, second_word, words_behind}
 use Rattle.logs.specs.Records.{words_of as recordsWords}
 use Rattle.std.specs.Prelude.{Option, Some, None}
-use Rattle.text.specs.declared.last.Last.{Last}
-use Rattle.text.specs.declared.last.Last.TheVariants.{Short, More}
+use Rattle.words.specs.declared.LeftOver.{LeftOver}
+use Rattle.words.specs.declared.LeftOver.TheVariants.{Short, More}
 use Rattle.text.specs.Last.{last_text}
 use Rattle.pieces.specs.Pieces.{bytes_of}
 use Rattle.iebus_dump.specs.Line.{Frame, bit_column, bytes_column, control_column, control_name, controls}
@@ -126,7 +126,7 @@ lines_short (p ∷ ps) (r ∷ rs) (also sound sounds) =
       lines_short ps rs sounds,
     )
 
-last_short : (last : Option Last) → length (last_text last) ≤ 6
+last_short : (last : Option LeftOver) → length (last_text last) ≤ 6
 unfolding last_text
 last_short None = omega arith
 last_short (Some Short) = omega arith

@@ -1,12 +1,12 @@
 -- What is printed for an input: a header, a line for each frame, a last line.
-use Rattle.std.specs.Prelude.{Bool, Option, Some, None, List, [], ◌∷◌, ◌++◌, ℕ, suc, ◌+◌, ◌*◌, ◌%◌, eqb, ltb, length, take}
+use Rattle.std.specs.Prelude.{Bool, Option, List, [], ◌∷◌, ◌++◌, ℕ, suc, ◌+◌, ◌*◌, eqb, length, take}
 use Rattle.line.specs.Choice.{pick}
 use Rattle.line.specs.Numbers.{slot_start}
 use Rattle.logs.specs.Frames.{stray_in}
 use Rattle.logs.specs.Records.{Record, records_of}
-use Rattle.text.specs.declared.last.Last.{Last}
-use Rattle.text.specs.declared.last.Last.TheVariants.{Short, More}
 use Rattle.text.specs.Last.{last_text}
+use Rattle.words.specs.declared.LeftOver.{LeftOver}
+use Rattle.words.specs.Left.{left_over_of}
 use Rattle.words.specs.Words.{words_read}
 use Rattle.pieces.specs.Pieces.{bytes_of}
 use Rattle.iebus_dump.specs.Line.{frame_of, line_of}
@@ -32,8 +32,8 @@ lines_of (p ∷ ps) [] = []
 lines_of (p ∷ ps) (r ∷ rs) = line_of p (frame_of r) ++ lines_of ps rs
 
 -- `more` if any byte follows the last word that is read, else `short` for 1 to 3 bytes left over
-unfoldable pub last_of : ℕ → Option Last
-last_of bytes = pick (ltb (most_words * 4) bytes) (Some More) (pick (eqb (bytes % 4) 0) None (Some Short))
+abbrev pub last_of : ℕ → Option LeftOver
+last_of bytes = left_over_of (most_words * 4) bytes
 
 abbrev pub header : List ℕ
 header = bytes_of "start  from   to  bit control      length bytes\n"

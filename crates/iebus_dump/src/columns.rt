@@ -10,7 +10,8 @@ use line::numbers::{
     END_BROKEN_SLAVE, END_NAK_CONTROL, END_NAK_LENGTH, END_NAK_SLAVE, END_SHORT, END_WHOLE,
 };
 
-// How many fields are given where a frame ended so.
+// How many fields are given where a frame ended so. By its number, as a record's word has it and as `fields_at` goes by
+// it: an enum is no plainer, as it needs a table of the same numbers first.
 #[tactic(auto, unfolding(logs::specs::Relied::fields_at))]
 pub(crate) fn given(ending: u32) -> u8
     requires { ending < 16 }
@@ -131,7 +132,7 @@ pub(crate) fn length(given: u8, length: u32) -> [u8; 4]
     ]
 }
 
-// How the frame ended.
+// How the frame ended, by its number for the same reason.
 pub(crate) fn ending(ending: u32) -> &'static [u8]
     ensures { result.now ≡ ending_column ending }
 {

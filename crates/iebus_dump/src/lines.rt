@@ -1,4 +1,7 @@
 // A line for each frame, by the words of its record.
+//
+// A text and the place in it stay two parameters: `Put`, the contract of whatever writes, is over both. A writer that
+// holds them needs a lifetime and a `Model` of its own, and is no plainer, as each call of `put` stays one line.
 ghost use Rattle.std.specs.Prelude.{◌≡◌, [], ◌++◌, ◌%◌, ◌<◌, ◌≤◌, length, get_or};
 ghost use Rattle.iebus_dump.specs.Line.{bytes_column, ending_column, fields_of, mark_column};
 ghost use Rattle.pieces.specs.Pieces.{Put};

@@ -6,24 +6,20 @@ ghost use Rattle.iebus_dump.specs.Writing.{last_by, shown_by, text_by};
 use crate::lines::put_lines;
 use logs::LogError;
 use pieces::put;
-use words::WORD_BYTES;
+use text::last::last_text;
+use words::left_over;
 
 // The bytes of the words that are read.
 const MOST_BYTES: usize = 65536;
 
 // The last line, where a log was read so.
-#[tactic(auto, unfolding(crate::specs::Writing::last_by, crate::specs::Dump::last_of, text::specs::Last::last_text))]
+#[tactic(auto, unfolding(crate::specs::Writing::last_by))]
 pub(crate) fn last_line(read: Result<usize, LogError>, bytes: usize) -> &'static [u8]
     ensures { result.now ≡ last_by read bytes }
 {
-    if read.is_err() {
-        b"refused 16\n"
-    } else if MOST_BYTES < bytes {
-        b"more\n"
-    } else if bytes % WORD_BYTES != 0 {
-        b"short\n"
-    } else {
-        b""
+    match read {
+        Ok(_) => last_text(left_over(bytes, MOST_BYTES)),
+        Err(_) => b"refused 16\n",
     }
 }
 

@@ -1,13 +1,16 @@
 -- A form byte by byte, and how long it is with its numbers.
 use mathlib.Core.Bool.{Bool, true, false}
 use mathlib.Core.List.{List, [], ◌∷◌, ◌++◌}
-use mathlib.Core.Path.{◌≡◌, refl, sym, ap, ◌∙◌}
+use mathlib.Core.Path.{◌≡◌, refl, ap, ◌∙◌}
 use Prim.Native.Nat.{ℕ, ◌+◌, ◌*◌, ◌<◌, ◌≤◌}
-use native.Mathlib.Nat.{add-zero}
 use native.Mathlib.Omega.{arith}
 use lib.Dec.{eqb}
+use denote.Ref.{Bor}
+use Rattle.std.specs.Option.{option_copied, unwrap_or}
+use Rattle.std.specs.Prelude.{Option, None, Some}
+use Rattle.std.specs.Slice.Iter.{iter_rest, iter_steps}
+use Rattle.std.specs.declared.slice.Iter.{Iter}
 use lib.ListN.{drop, drop_of_length-le, get_or, length, length-append}
-use lib.Seq.{drop-drop, get_or-drop}
 use Rattle.line.proofs.Places.{cut}
 use Rattle.line.specs.Choice.{pick}
 use Rattle.pieces.proofs.Pieces.{UpTo, up_to_all, up_to_none, up_to_one}
@@ -24,56 +27,46 @@ woven_one : (b : ℕ) (bs numbers : List ℕ)
 unfolding woven
 woven_one b bs numbers = refl
 
--- ---- put_form: i bytes of the form stand in the text, and `next` numbers with them
+-- ---- put_form: i bytes of the form stand in the text, and `left` are the numbers that are left for the rest
 
-pub record Woven (text : List ℕ) (at : ℕ) (form numbers : List ℕ) (next i end : ℕ) (after : List ℕ) : Type 0 where
+pub record Woven (text : List ℕ) (at : ℕ) (form numbers left : List ℕ) (i end : ℕ) (after : List ℕ) : Type 0 where
   pub within : i ≤ length form
-  pub few : next ≤ i
-  pub up : UpTo text at (woven form numbers) (woven (drop i form) (drop next numbers)) end after
+  pub up : UpTo text at (woven form numbers) (woven (drop i form) left) end after
 
-pub woven_begun : (text : List ℕ) (at : ℕ) (form numbers : List ℕ) → Woven text at form numbers 0 0 at text
+pub woven_begun : (text : List ℕ) (at : ℕ) (form numbers : List ℕ) → Woven text at form numbers numbers 0 at text
 woven_begun text at form numbers = record {
   within = omega arith;
-  few = omega arith;
   up = up_to_none text at (woven form numbers);
 }
 
-pub count_le : (byte : ℕ) → count_by byte ≤ 1
-count_le byte = by_test (eqb byte mark) where
-  by_test : (t : Bool) → pick t 1 0 ≤ 1
-  by_test true = omega arith
-  by_test false = omega arith
-
-pub woven_more : {text form numbers after later : List ℕ} {at next i end further n used : ℕ}
-    → Woven text at form numbers next i end after → i < length form → n ≡ get_or numbers next 0
-    → Put after end (piece_by (get_or form i 0) n) further later → used ≡ count_by (get_or form i 0)
-    → Woven text at form numbers (next + used) (i + 1) further later
-woven_more {text} {form} {numbers} {after} {later} {at} {next} {i} {end} {further} {n} {used} w h is put uses =
+-- one byte more: a mark takes a number, another byte none
+pub woven_more : {text form numbers left after later : List ℕ} {at i end further : ℕ} (marked : Bool)
+    → Woven text at form numbers left i end after → i < length form → eqb (get_or form i 0) mark ≡ marked
+    → Put after end (pick marked (column_of (get_or left 0 0)) (get_or form i 0 ∷ [])) further later
+    → Woven text at form numbers (drop (pick marked 1 0) left) (i + 1) further later
+woven_more {text} {form} {numbers} {left} {after} {later} {at} {i} {end} {further} marked w h is put =
     let byte : ℕ = get_or form i 0 in
-    let first : n ≡ get_or (drop next numbers) 0 0 =
-    is ∙ sym (get_or-drop next numbers 0 0 ∙ ap (λ (k : ℕ). get_or numbers k 0) (add-zero next))
+    let rest : Bool → List ℕ = λ t. woven (drop (i + 1) form) (drop (pick t 1 0) left) in
+    let whole : woven (drop i form) left ≡ pick marked (column_of (get_or left 0 0)) (byte ∷ []) ++ rest marked =
+    ap (λ (l : List ℕ). woven l left) (cut form i h) ∙ woven_one byte (drop (i + 1) form) left
+    ∙ ap (λ (t : Bool). pick t (column_of (get_or left 0 0)) (byte ∷ []) ++ rest t) is
     in
-    let rest : drop (count_by byte) (drop next numbers) ≡ drop (next + used) numbers =
-    drop-drop (count_by byte) next numbers ∙ ap (λ (k : ℕ). drop (next + k) numbers) (sym uses)
-    in
-    let whole : woven (drop i form) (drop next numbers)
-    ≡ piece_by byte n ++ woven (drop (i + 1) form) (drop (next + used) numbers) =
-    ap (λ (l : List ℕ). woven l (drop next numbers)) (cut form i h)
-    ∙ woven_one byte (drop (i + 1) form) (drop next numbers)
-    ∙ ap (λ (k : ℕ). piece_by byte k ++ woven (drop (i + 1) form) (drop (count_by byte) (drop next numbers))) (sym first)
-    ∙ ap (λ (l : List ℕ). piece_by byte n ++ woven (drop (i + 1) form) l) rest
-    in
-    record {
-      within = omega arith;
-      few = omega (arith, w.few, uses, count_le byte);
-      up = up_to_one (rw whole at w.up) put;
-    }
+    record { within = omega arith; up = up_to_one (rw whole at w.up) put }
 
-pub woven_all : {text form numbers after : List ℕ} {at next i end : ℕ}
-    → Woven text at form numbers next i end after → length form ≤ i → Put text at (woven form numbers) end after
-woven_all {text} {form} {numbers} {after} {at} {next} {i} {end} w h =
-    let none : woven (drop i form) (drop next numbers) ≡ [] =
-    ap (λ (l : List ℕ). woven l (drop next numbers)) (drop_of_length-le form h) ∙ woven_none (drop next numbers)
+-- the next number, and what is then left
+pub taken : (s : Iter ℕ) (r : Option (Bor ℕ)) (t : Iter ℕ) → iter_steps s r t
+    → (unwrap_or (option_copied r) 0 ≡ get_or (iter_rest s) 0 0) × (iter_rest t ≡ drop 1 (iter_rest s))
+taken s None t steps =
+    let none : length (iter_rest s) ≤ 0 = omega (arith, steps.0) in
+    let empty : iter_rest s ≡ [] = drop_of_length-le (iter_rest s) none in
+    (rw empty refl, rw (steps.1, empty) refl)
+taken s (Some x) t steps = (rw steps refl, rw steps refl)
+
+pub woven_all : {text form numbers left after : List ℕ} {at i end : ℕ}
+    → Woven text at form numbers left i end after → length form ≤ i → Put text at (woven form numbers) end after
+woven_all {text} {form} {numbers} {left} {after} {at} {i} {end} w h =
+    let none : woven (drop i form) left ≡ [] =
+    ap (λ (l : List ℕ). woven l left) (drop_of_length-le form h) ∙ woven_none left
     in
     up_to_all (rw none at w.up)
 

@@ -1,11 +1,12 @@
 -- What is made of an input: the summary or the plot of its figures, and what is said besides.
-use Rattle.std.specs.Prelude.{List, [], ◌++◌, ◌≡◌, ℕ, ◌+◌, ◌*◌, ◌%◌, ◌≤◌, eqb, ltb, drop, length, take}
+use Rattle.std.specs.Option.{option_map}
+use Rattle.std.specs.Prelude.{List, [], ◌++◌, ◌≡◌, ℕ, ◌+◌, ◌*◌, ◌≤◌, drop, length, take}
 use Rattle.std.specs.Prelude.{Option, Some, None, Ok, Err}
-use Rattle.line.specs.Choice.{pick}
 use Rattle.loads.specs.declared.LoadError.TheVariants.{ShortList, BadWindow, NoSlot}
 use Rattle.loads.specs.declared.Peak.{Peak}
 use Rattle.loads.specs.Figures.{busy_of, figures_of}
 use Rattle.loads.specs.Load.{Ending, end_of}
+use Rattle.words.specs.Left.{left_over_of}
 use Rattle.words.specs.Words.{words_read}
 use Rattle.iebus_load.specs.declared.arguments.View.{View}
 use Rattle.iebus_load.specs.declared.arguments.View.TheVariants.{Summary, Plot}
@@ -58,8 +59,7 @@ output_of view w input room = take room (whole_of view w input)
 -- what is said of an input of so many bytes: the refusal or that there is no slot, alone; else `more` if any byte
 -- follows the last slot that is read, else `short` for 1 to 3 bytes left over
 unfoldable pub message_of : Ending → ℕ → Option Message
-message_of (Ok (Some peak)) bytes =
-    pick (ltb (most_slots * 4) bytes) (Some message.More) (pick (eqb (bytes % 4) 0) None (Some message.Short))
+message_of (Ok (Some peak)) bytes = option_map message.Left (left_over_of (most_slots * 4) bytes)
 message_of (Ok None) bytes = Some message.Empty
 message_of (Err ShortList) bytes = None
 message_of (Err BadWindow) bytes = Some message.BadWindow

@@ -1,7 +1,7 @@
 // A form with its numbers: each @ in it stands for the next one, in five columns.
-ghost use Rattle.std.specs.Prelude.{◌≡◌, ◌<◌, get_or};
+ghost use Rattle.std.specs.Prelude.{◌≡◌, ◌<◌};
 ghost use Rattle.pieces.specs.Pieces.{Put};
-ghost use Rattle.iebus_load.specs.Forms.{column_of, count_by, digit_at, piece_by, woven};
+ghost use Rattle.iebus_load.specs.Forms.{column_of, digit_at, woven};
 
 use pieces::put;
 
@@ -31,33 +31,17 @@ fn column(n: u32) -> [u8; 5]
     ]
 }
 
-// A byte of a form, or the number that it stands for.
-fn put_piece(text: &mut [u8], at: usize, byte: u8, n: u32) -> usize
-    ensures { Put text.old at (piece_by byte n) result text.new }
-{
-    if byte == MARK {
-        put(text, at, &column(n))
-    } else {
-        put(text, at, &[byte])
-    }
-}
-
-// How many numbers a byte of a form stands for.
-fn count(byte: u8) -> usize
-    ensures { result ≡ count_by byte }
-{
-    usize::from(byte == MARK)
-}
-
 pub(crate) fn put_form(text: &mut [u8], at: usize, form: &[u8], numbers: &[u32]) -> usize
     ensures { Put text.old at (woven form.now numbers.now) result text.new }
 {
+    let mut left = numbers.iter();
     let mut end = at;
-    let mut next = 0;
     for byte in form {
-        let number = numbers.get(next).copied().unwrap_or(0);
-        end = put_piece(text, end, *byte, number);
-        next += count(*byte);
+        end = if *byte == MARK {
+            put(text, end, &column(left.next().copied().unwrap_or(0)))
+        } else {
+            put(text, end, &[*byte])
+        };
     }
     end
 }

@@ -36,7 +36,8 @@ const TEXT_BYTES: usize = 591069;
 // A number has at most five digits; a longer argument is none.
 const NUMBER_BYTES: usize = 5;
 
-// How long the text is, and what is said.
+// How long the text is, and what is said. Not shared with `iebus_slots`: one of both would be a generic type, and is no
+// plainer than two fields.
 #[derive(Clone, Copy)]
 struct Outcome {
     count: usize,
@@ -73,7 +74,8 @@ fn made(wanted: Wanted, input: &[u8], text: &mut [u8]) -> Outcome
     made_in(wanted, input, &mut slots, &mut figures, text)
 }
 
-// There is room for all of it. Where it cannot be written, nothing is left to do.
+// There is room for all of it. Where it cannot be written, nothing is left to do. Not shared with `iebus_slots`: a
+// public function that only prints would have nothing to promise, and so no edit of it could be refused.
 fn print(rt: &(impl Print + Eprint), wanted: Wanted, input: &[u8], text: &mut [u8])
     requires { text_bytes ≤ length text.old }
 {
@@ -101,12 +103,9 @@ fn has_argument(rt: &impl Env, place: usize) -> bool {
 
 // How many arguments there are, with the program's own name.
 fn argument_count(rt: &impl Env) -> usize {
-    for place in 0..usize::MAX {
-        if !has_argument(rt, place) {
-            return place;
-        }
-    }
-    usize::MAX
+    (0..usize::MAX)
+        .find(|place| !has_argument(rt, *place))
+        .unwrap_or(usize::MAX)
 }
 
 fn main(rt: HostRuntime) {

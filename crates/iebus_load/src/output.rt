@@ -4,12 +4,11 @@ ghost use Rattle.iebus_load.specs.Output.{message_of};
 
 use loads::{LoadError, Peak};
 use std::fmt;
-use words::WORD_BYTES;
+use words::{LeftOver, left_over};
 
 #[derive(Clone, Copy, Debug, PartialEq, Eq)]
 pub(crate) enum Message {
-    Short,
-    More,
+    Left(LeftOver),
     Empty,
     BadWindow,
     NoSlot,
@@ -17,13 +16,12 @@ pub(crate) enum Message {
 
 impl fmt::Display for Message {
     fn fmt<W: fmt::Write>(&self, f: &mut fmt::Formatter<W>) -> fmt::Result {
-        f.write_str(match self {
-            Message::Short => "short",
-            Message::More => "more",
-            Message::Empty => "empty",
-            Message::BadWindow => "refused 25",
-            Message::NoSlot => "refused 16",
-        })
+        match self {
+            Message::Left(left) => left.fmt(f),
+            Message::Empty => f.write_str("empty"),
+            Message::BadWindow => f.write_str("refused 25"),
+            Message::NoSlot => f.write_str("refused 16"),
+        }
     }
 }
 
@@ -35,9 +33,7 @@ pub(crate) fn told(ended: Result<Option<Peak>, LoadError>, bytes: usize) -> Opti
     ensures { result ≡ message_of ended bytes }
 {
     match ended {
-        Ok(Some(_)) if MOST_BYTES < bytes => Some(Message::More),
-        Ok(Some(_)) if bytes % WORD_BYTES != 0 => Some(Message::Short),
-        Ok(Some(_)) => None,
+        Ok(Some(_)) => left_over(bytes, MOST_BYTES).map(Message::Left),
         Ok(None) => Some(Message::Empty),
         Err(LoadError::ShortList) => None,
         Err(LoadError::BadWindow) => Some(Message::BadWindow),

@@ -1,4 +1,7 @@
 // The summary of a log, and the plot of its figures.
+//
+// A text and the place in it stay two parameters: `Put`, the contract of whatever writes, is over both. A writer that
+// holds them needs a lifetime and a `Model` of its own, and is no plainer, as each call of `put_form` stays one line.
 ghost use Rattle.std.specs.Prelude.{◌≡◌, ◌<◌, ◌≤◌};
 ghost use Rattle.pieces.specs.Pieces.{Put};
 ghost use Rattle.iebus_load.specs.Forms.{woven};

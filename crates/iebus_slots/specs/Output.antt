@@ -1,9 +1,10 @@
 -- What is made of an input: the slots of its pulses, as bytes, and what is said besides.
-use Rattle.std.specs.Prelude.{List, ◌≡◌, ℕ, ◌*◌, ◌/◌, ◌%◌, Option, Some, None, Ok, Err, min, eqb, ltb, length}
-use Rattle.line.specs.Choice.{pick}
+use Rattle.std.specs.Option.{option_map}
+use Rattle.std.specs.Prelude.{List, ◌≡◌, ℕ, ◌*◌, ◌/◌, Option, Some, None, Ok, Err, min, length}
 use Rattle.pulses.specs.declared.PulsesError.TheVariants.{ShortList, BadRanges, BadPulse}
 use Rattle.pulses.specs.declared.Setting.{Setting}
 use Rattle.pulses.specs.Conversion.{Ending, end_of, written_of}
+use Rattle.words.specs.Left.{left_over_of}
 use Rattle.words.specs.Words.{bytes_of, words_of, words_read}
 use Rattle.iebus_slots.specs.declared.output.Message.{Message}
 use Rattle.iebus_slots.specs.declared.output.Message.TheVariants as message
@@ -40,8 +41,7 @@ pub record ReadAgain (s : Setting) (input : List ℕ) : Type 0 where
 -- what is said of an input of so many bytes: the refusal alone, else `more` if any byte follows the last pulse that is
 -- read, else `short` for 1 to 3 bytes left over
 unfoldable pub message_of : Ending → ℕ → Option Message
-message_of (Ok done) bytes =
-    pick (ltb (most_pulses * 4) bytes) (Some message.More) (pick (eqb (bytes % 4) 0) None (Some message.Short))
+message_of (Ok done) bytes = option_map message.Left (left_over_of (most_pulses * 4) bytes)
 message_of (Err ShortList) bytes = None
 message_of (Err BadRanges) bytes = Some message.BadRanges
 message_of (Err BadPulse) bytes = Some message.BadPulse

@@ -34,7 +34,8 @@ const SLOT_BYTES: usize = 65536;
 // A number has at most five digits; a longer argument is none.
 const ARGUMENT_BYTES: usize = 5;
 
-// How many bytes of slots there are, and what is said.
+// How many bytes of slots there are, and what is said. Not shared with `iebus_load`: one of both would be a generic
+// type, and is no plainer than two fields.
 #[derive(Clone, Copy)]
 struct Outcome {
     count: usize,
@@ -62,7 +63,8 @@ fn converted(setting: Setting, input: &[u8], bytes: &mut [u8]) -> Outcome
     }
 }
 
-// There is room for all of it. Where it cannot be written, nothing is left to do.
+// There is room for all of it. Where it cannot be written, nothing is left to do. Not shared with `iebus_load`: a
+// public function that only prints would have nothing to promise, and so no edit of it could be refused.
 fn print(rt: &(impl Print + Eprint), setting: Setting, input: &[u8], slots: &mut [u8])
     requires { most_pulses * 4 ≤ length slots.old }
 {

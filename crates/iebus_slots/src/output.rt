@@ -4,24 +4,22 @@ ghost use Rattle.iebus_slots.specs.Output.{given_of, message_of};
 
 use pulses::PulsesError;
 use std::fmt;
-use words::WORD_BYTES;
+use words::{LeftOver, left_over};
 
 #[derive(Clone, Copy, Debug, PartialEq, Eq)]
 pub(crate) enum Message {
-    Short,
-    More,
+    Left(LeftOver),
     BadRanges,
     BadPulse,
 }
 
 impl fmt::Display for Message {
     fn fmt<W: fmt::Write>(&self, f: &mut fmt::Formatter<W>) -> fmt::Result {
-        f.write_str(match self {
-            Message::Short => "short",
-            Message::More => "more",
-            Message::BadRanges => "refused 19",
-            Message::BadPulse => "refused 20",
-        })
+        match self {
+            Message::Left(left) => left.fmt(f),
+            Message::BadRanges => f.write_str("refused 19"),
+            Message::BadPulse => f.write_str("refused 20"),
+        }
     }
 }
 
@@ -33,9 +31,7 @@ pub(crate) fn told(ended: Result<(), PulsesError>, bytes: usize) -> Option<Messa
     ensures { result ≡ message_of ended bytes }
 {
     match ended {
-        Ok(()) if MOST_BYTES < bytes => Some(Message::More),
-        Ok(()) if bytes % WORD_BYTES != 0 => Some(Message::Short),
-        Ok(()) => None,
+        Ok(()) => left_over(bytes, MOST_BYTES).map(Message::Left),
         Err(PulsesError::ShortList) => None,
         Err(PulsesError::BadRanges) => Some(Message::BadRanges),
         Err(PulsesError::BadPulse) => Some(Message::BadPulse),

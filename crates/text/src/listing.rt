@@ -5,8 +5,8 @@ ghost use Rattle.text.specs.Listing.{listed_of, words_listed};
 ghost use Rattle.text.specs.Writing.{LinesIn, pasted};
 
 use crate::hex::{LINE_BYTES, line};
-use crate::last::{MOST_BYTES, last_line, last_text};
-use words::WORD_BYTES;
+use crate::last::{MOST_BYTES, last_text};
+use words::{WORD_BYTES, left_over};
 
 const HEADER: &[u8] = b"word answer\n";
 
@@ -77,7 +77,7 @@ pub fn listing(input: &[u8], answers: &[u8], text: &mut [u8]) -> usize
         return 0;
     }
     let at = put_lines(input, answers, text);
-    let last = last_text(last_line(input.len()));
+    let last = last_text(left_over(input.len(), MOST_BYTES));
     put(text, at, last);
     at + last.len()
 }

@@ -4,7 +4,8 @@ ghost use Rattle.std.specs.Prelude.{◌≡◌, ◌≤◌};
 use list_run::run::run;
 use unit::step::Unit;
 
-// How many words a list has, but for the last.
+// How many words a list has, but for the last. The words and what was said to them are two lists and no list of pairs,
+// which is no plainer: `run` takes the words as a list, and its answers are compared with the other list as a whole.
 const LIST_WORDS: usize = 250;
 
 // The unit, the words of the list that is next with what the first unit said to each, how many words were given, and
