@@ -79,6 +79,7 @@ fn put_losses(contenders: &[Contender], winner: u32, lost: &mut [u32])
     requires { length contenders.now ≤ length lost.old }
     ensures { Losses winner contenders.now lost.old lost.new }
 {
+    // no `lost.iter_mut().zip(contenders)`: nothing is known then of the numbers that it wrote
     for (place, contender) in contenders.iter().enumerate() {
         lost[place] = lost_in(winner, number(*contender));
     }
