@@ -65,13 +65,11 @@ fn least(contenders: &[Contender]) -> usize
     requires { (0 < length contenders.now) × (length contenders.now ≤ most_contenders) }
     ensures { Least contenders.now result }
 {
-    let mut best: usize = 0;
-    for (place, contender) in contenders.iter().enumerate() {
-        if number(*contender) < number(contenders[best]) {
-            best = place;
-        }
-    }
-    best
+    contenders
+        .iter()
+        .enumerate()
+        .min_by_key(|(_, contender)| number(**contender))
+        .map_or(0, |(place, _)| place)
 }
 
 // Writes for each contender the slot in which it first differs from the number given.
