@@ -12,6 +12,9 @@ use lib.Bits.{and_le_l, and_le_r, bit_or, or_add_and, or_lt}
 use lib.ListN.{get_or-eq_default, drop, drop_of_length-le, get_or, length, length-drop, length-take, take}
 use lib.Seq.{get_or-drop, get_or-take, slice, take-suc, take_all}
 use Rattle.std.specs.List.{AllWithin, HoldsAt}
+use Rattle.std.specs.Slice.Iter.{iter_rest}
+use Rattle.std.proofs.iter.Yields.{fronts}
+use Rattle.std.proofs.lemmas.Iterator.{YieldsList, YieldsList-from_slice}
 use Rattle.line.proofs.Either.{below_or_not}
 use Rattle.line.proofs.Places.{cut}
 use Rattle.line.specs.Numbers.{slot_start}
@@ -62,12 +65,16 @@ searched_ahead zero {slots} {from} {i} s room none = rw (add-zero i) s
 searched_ahead (suc count) {slots} {from} {i} s room none =
     let one : i + suc count ≡ i + count + 1 = omega arith in
     rw one
-    (searched_one (searched_ahead count s (omega (arith, room)) (λ k d from below. none k d from (omega (arith, below))))
+    (searched_one
+    (searched_ahead count s (omega (arith, room)) (λ k d from below. none k d from (omega (arith, below))))
     (omega (arith, room)) (λ e. none count 0 (omega arith) (omega arith) (get_or-drop i slots count 0 ∙ e)))
 
--- the slots from a place on, as the code cuts them off
-pub cut_off : (slots : List ℕ) (from : ℕ) → take (length slots - from) (drop from slots) ≡ drop from slots
-cut_off slots from = take_all (length slots - from) (drop from slots) (omega (arith, length-drop from slots))
+-- what an iterator gives over the slots from a place on
+pub yields_behind : {s : _} (slots : List ℕ) (from : ℕ) → iter_rest s ≡ take (length slots - from) (drop from slots)
+    → YieldsList fronts (λ y. y.now) s (drop from slots)
+yields_behind slots from rest =
+    YieldsList-from_slice (drop from slots)
+    (rest ∙ take_all (length slots - from) (drop from slots) (omega (arith, length-drop from slots)))
 
 module _ (slots : List ℕ) (from : ℕ) (inside : from ≤ length slots) where
   searched_none : Searched slots from from
@@ -88,7 +95,8 @@ module _ (slots : List ℕ) (from : ℕ) (inside : from ≤ length slots) where
       → frames_of (drop from slots) ≡ []
   start_nowhere none =
       let all : from + length (drop from slots) ≡ length slots = omega (arith, inside, length-drop from slots) in
-      searched_all (searched_ahead (length (drop from slots)) searched_none (omega (arith, all)) none) (omega (arith, all))
+      let s = searched_ahead (length (drop from slots)) searched_none (omega (arith, all)) none in
+      searched_all s (omega (arith, all))
 
 -- ---- levels_end
 
@@ -168,8 +176,8 @@ module _ {slots : List ℕ} {from i : ℕ} (f : Followed slots from i) where
   end_nowhere low =
       let all : i + length (drop i slots) ≡ length slots
       = omega (arith, f.searched.within.inside, length-drop i slots) in
-      followed_all (followed_ahead (length (drop i slots)) f (levels_ahead (length (drop i slots)) (omega (arith, all)) low))
-      all
+      let rest = length (drop i slots) in
+      followed_all (followed_ahead rest f (levels_ahead rest (omega (arith, all)) low)) all
 
 -- ---- number
 

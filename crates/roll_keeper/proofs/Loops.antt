@@ -35,7 +35,8 @@ place_found bytes n None none =
     let place = number_place n (requests_in bytes) in
     let many = requests_length bytes in
     ⊎_elim
-    (λ h. absurd (none place (omega arith) (omega (arith, h, many)) (sym (requests_at bytes place (omega (arith, h, many)))
+    (λ h. let inside : place < count_in bytes = omega (arith, h, many) in
+    absurd (none place (omega arith) inside (sym (requests_at bytes place inside)
     ∙ eqb-true _ n (first_holds (λ x. eqb x n) (requests_in bytes) 0 h))))
     (λ h. h)
     (below_or_not place (length (requests_in bytes)))
@@ -44,7 +45,8 @@ place_found bytes n (Some i) (_, inside, here, before) =
       omega (arith, inside, many),
       first_is (λ x. eqb x n) (requests_in bytes) 0 i (omega (arith, inside, many))
           (eq-eqb _ n (requests_at bytes i inside ∙ here))
-          (λ k h. ne_eqb _ n (λ e. before k (omega arith) h (sym (requests_at bytes k (omega (arith, h, inside))) ∙ e))),
+          (λ k h. let at = requests_at bytes k (omega (arith, h, inside)) in
+          ne_eqb _ n (λ e. before k (omega arith) h (sym at ∙ e))),
     )
 
 -- ---- lowest: what std's `min` finds

@@ -1,10 +1,8 @@
-use mathlib.Core.Path.{◌∙◌}
 use Prim.Native.Nat.{◌<◌, ◌≤◌}
-use lib.ListN.{drop}
 use Rattle.std.proofs.Common.{rules, tests}
-use Rattle.std.proofs.lemmas.Iterator.{IsFirst-from_position, YieldsList-from_slice}
+use Rattle.std.proofs.lemmas.Iterator.{IsFirst-from_position}
 use Rattle.line.specs.Numbers.{slot_start}
-use Rattle.reader.proofs.Slots.{cut_off, end_nowhere, end_there, followed_ahead}
+use Rattle.reader.proofs.Slots.{end_nowhere, end_there, followed_ahead, yields_behind}
 use Rattle.reader.proofs.levels.levels_end.Goals as goal
 
 pub loop-i-preserved : goal.loop-i-preserved
@@ -13,16 +11,14 @@ loop-i-preserved c =
 
 pub returns-in-Some : goal.returns-in-Some
 returns-in-Some c =
-    end_there c.loop-i.invariant
-    (rw c.in-Some.is at (IsFirst-from_position _ _ c.position.result (λ x. slot_start ≤ x) (λ x. x < slot_start)
-    c.position.ensures.ran
-    (YieldsList-from_slice (drop c.loop-i.i c.args.slots.now) (c.iter.ensures.rest ∙ cut_off c.args.slots.now c.loop-i.i))
-    (λ x q k. search (rules, tests)) (λ x q k. search (rules, tests))))
+    let found = IsFirst-from_position _ _ c.position.result (λ x. slot_start ≤ x) (λ x. x < slot_start)
+    c.position.ensures.ran (yields_behind c.args.slots.now c.loop-i.i c.iter.ensures.rest)
+    (λ x q k. search (rules, tests)) (λ x q k. search (rules, tests)) in
+    end_there c.loop-i.invariant (rw c.in-Some.is at found)
 
 pub returns-in-None : goal.returns-in-None
 returns-in-None c =
-    end_nowhere c.loop-i.invariant
-    (rw c.in-None.is at (IsFirst-from_position _ _ c.position.result (λ x. slot_start ≤ x) (λ x. x < slot_start)
-    c.position.ensures.ran
-    (YieldsList-from_slice (drop c.loop-i.i c.args.slots.now) (c.iter.ensures.rest ∙ cut_off c.args.slots.now c.loop-i.i))
-    (λ x q k. search (rules, tests)) (λ x q k. search (rules, tests))))
+    let found = IsFirst-from_position _ _ c.position.result (λ x. slot_start ≤ x) (λ x. x < slot_start)
+    c.position.ensures.ran (yields_behind c.args.slots.now c.loop-i.i c.iter.ensures.rest)
+    (λ x q k. search (rules, tests)) (λ x q k. search (rules, tests)) in
+    end_nowhere c.loop-i.invariant (rw c.in-None.is at found)
