@@ -78,6 +78,7 @@ fn put_slots(s: Setting, pulses: &[u32], slots: &mut [u32])
     ensures { slots.new ≡ slots_of s pulses.now
         ++ drop (length pulses.now) slots.old }
 {
+    // no `slots.iter_mut().zip(pulses)`: tried, and nothing is known then of the slots that it wrote
     for (i, pulse) in pulses.iter().enumerate() {
         slots[i] = symbol(s, Range::in_word(*pulse));
     }

@@ -65,13 +65,11 @@ fn least(contenders: &[Contender]) -> usize
     requires { (0 < length contenders.now) × (length contenders.now ≤ most_contenders) }
     ensures { Least contenders.now result }
 {
-    let mut best: usize = 0;
-    for (place, contender) in contenders.iter().enumerate() {
-        if number(*contender) < number(contenders[best]) {
-            best = place;
-        }
-    }
-    best
+    contenders
+        .iter()
+        .enumerate()
+        .min_by_key(|(_, contender)| number(**contender))
+        .map_or(0, |(place, _)| place)
 }
 
 // Writes for each contender the slot in which it first differs from the number given.
@@ -79,6 +77,7 @@ fn put_losses(contenders: &[Contender], winner: u32, lost: &mut [u32])
     requires { length contenders.now ≤ length lost.old }
     ensures { Losses winner contenders.now lost.old lost.new }
 {
+    // no `lost.iter_mut().zip(contenders)`: nothing is known then of the numbers that it wrote
     for (place, contender) in contenders.iter().enumerate() {
         lost[place] = lost_in(winner, number(*contender));
     }

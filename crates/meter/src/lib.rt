@@ -71,6 +71,7 @@ fn put_figures(w: usize, slots: &[u32], figures: &mut [u32]) -> Peak
         place: 0,
     };
     let mut count: u32 = 0;
+    // no `figures.iter_mut().zip(slots)`: the place is needed all the same, and nothing is known then of what it wrote
     for (i, slot) in slots.iter().enumerate() {
         count = count + busy(*slot) - leaving(w, slots, i);
         figures[i] = count;

@@ -23,12 +23,8 @@ pub(crate) fn next_start(slots: &[u32], from: usize) -> Option<usize>
     requires { from ≤ length slots.now }
     ensures { MatchOption result (frames_of (drop from slots.now) ≡ []) (NextStart slots.now from) }
 {
-    for place in from..slots.len() {
-        if slots[place] == SLOT_START {
-            return Some(place);
-        }
-    }
-    None
+    let ahead = slots[from..].iter().position(|slot| *slot == SLOT_START)?;
+    Some(from + ahead)
 }
 
 // Whether the eight slots from a place on are there, and all are levels.
@@ -53,12 +49,10 @@ pub(crate) fn levels_end(slots: &[u32], from: usize) -> usize
     while eight_levels(slots, i) {
         i += 8;
     }
-    for place in i..slots.len() {
-        if SLOT_HIGH < slots[place] {
-            return place;
-        }
+    match slots[i..].iter().position(|slot| SLOT_HIGH < *slot) {
+        Some(ahead) => i + ahead,
+        None => slots.len(),
     }
-    slots.len()
 }
 
 // The number that so many levels make, the highest bit first. What rests on it asks for `Low`, too: a type of levels

@@ -32,6 +32,7 @@ fn put_records(long: bool, slots: &[u32], records: &mut [u32]) -> usize
     let mut next = 0;
     let mut before = None;
     let mut from = 0;
+    // by hand: `split` at the starts would read each level twice, and `next` and `before` would be kept all the same
     while let Some(start) = next_start(slots, from) {
         let end = levels_end(slots, start + 1);
         let entry = put_record(long, &slots[start + 1..end], records, next, before);

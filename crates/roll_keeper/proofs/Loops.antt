@@ -1,71 +1,101 @@
 -- What each loop keeps from turn to turn.
-use mathlib.Core.List.{List, [], ◌∷◌, ◌++◌}
+use mathlib.Core.List.{List, [], ◌∷◌, ◌++◌, map}
 use mathlib.Core.Logic.{⊎_elim}
-use mathlib.Core.Path.{◌≡◌, refl, sym, ap, subst, ◌∙◌}
+use mathlib.Core.Path.{◌≡◌, refl, sym, ap, ◌∙◌}
 use Prim.Native.Nat.{ℕ, zero, suc, min, ◌+◌, ◌-◌, ◌*◌, ◌/◌, ◌%◌, ◌≤◌, ◌<◌}
 use native.Mathlib.Omega.{arith}
-use borrow.Author.Count.{below_more}
-use borrow.Author.Tests.{le-leb, le-ltb, lt-leb, lt-ltb}
-use lib.Dec.{ltb}
+use borrow.Author.Tests.{eq-eqb, eqb-true, le-leb, le-ltb, lt-leb, lt-ltb, ne_eqb}
+use lib.Dec.{eqb, ltb}
 use lib.ListN.{get_or-append, get_or-eq_default, drop, get_or, get_or-replicate, length}
 use lib.ListN.{length-append, length-drop, length-replicate, length-set, length-take, replicate, set, take}
 use borrow.Rule.Slice.PartMut.{mid_len, mid_of, put_mid, same_len_mid}
+use Rattle.std.specs.List.{fold, range_with_len, reduce}
+use Rattle.std.specs.Prelude.{MatchOption, None, Option, Some}
+use Rattle.std.proofs.lemmas.List.FromFn.{get_or-map-range_with_len, length-map-range_with_len}
 use Rattle.std.proofs.lemmas.Slice.{take-put_mid}
 use lib.Seq.{take_all, ext_get_or, get_or-append-add, get_or-set_other, get_or-set_same, get_or-take, length-take-le}
 use Rattle.line.specs.Choice.{pick}
 use Rattle.line.specs.Numbers.{most_contenders, roll_bytes}
 use Rattle.line.proofs.Either.{below_or_not, same_or_not}
+use Rattle.line.proofs.First.{first_holds, first_is}
+use Rattle.contest.specs.Deciding.{Found}
 use Rattle.rolls.specs.Kept.{count_in, pairs, request_at, requests_in}
 use Rattle.rolls.specs.Roll.{without}
 use Rattle.rolls.proofs.Bytes.{pair_high, pair_low, pairs_length, past_count, requests_at, requests_length}
-use Rattle.roll_keeper.specs.Keeping.{Lowest, from_place, left_at, put_of}
+use Rattle.roll_keeper.specs.Keeping.{Lowest, from_place, left_at, number_place, put_of}
 
--- ---- lowest: the lowest of the first i
+-- ---- place_of: what std's `find` finds
 
-pub record LowestOf (ns : List ℕ) (best i : ℕ) : Type 0 where
-  pub place : ℕ
-  pub before : place < i
-  pub within : i ≤ length ns
-  pub is : get_or ns place 0 ≡ best
-  pub low : (j : ℕ) → j < i → best ≤ get_or ns j 0
-
-pub lowest_one : (ns : List ℕ) (best : ℕ) → 0 < length ns → best ≡ get_or ns 0 0 → LowestOf ns best 1
-lowest_one ns best some e = record {
-  place = 0;
-  before = omega arith;
-  within = some;
-  is = sym e;
-  low = λ j h. let first : j ≡ 0 = omega (arith, h) in omega (arith, e, ap (λ (k : ℕ). get_or ns k 0) first);
-}
-
--- one more
-pub lowest_more : {ns : List ℕ} {best i n : ℕ} → LowestOf ns best i → i < length ns → n ≡ get_or ns i 0
-    → LowestOf ns (min best n) (i + 1)
-lowest_more {ns} {best} {i} {n} l inside is =
+pub place_found : (bytes : List ℕ) (n : ℕ) (r : Option ℕ)
+    → MatchOption r ((k : ℕ) → 0 ≤ k → k < count_in bytes → request_at bytes k ≡ n → ⊥)
+    (λ i. (0 ≤ i) × (i < count_in bytes) × (request_at bytes i ≡ n)
+    × ((k : ℕ) → 0 ≤ k → k < i → request_at bytes k ≡ n → ⊥))
+    → Found (requests_in bytes) (number_place n (requests_in bytes)) r
+place_found bytes n None none =
+    let place = number_place n (requests_in bytes) in
+    let many = requests_length bytes in
     ⊎_elim
-    (λ (lt : n < best). subst (λ m. LowestOf ns m (i + 1)) (omega arith) (record {
-      place = i;
-      before = omega arith;
-      within = omega arith;
-      is = sym is;
-      low = below_more (λ j. n ≤ get_or ns j 0) i (λ j h. omega (arith, l.low j h)) (omega arith);
-    }))
-    (λ (le : best ≤ n). subst (λ m. LowestOf ns m (i + 1)) (omega arith) (record {
-      place = l.place;
-      before = omega (arith, l.before);
-      within = omega arith;
-      is = l.is;
-      low = below_more (λ j. best ≤ get_or ns j 0) i l.low (omega arith);
-    }))
-    (below_or_not n best)
+    (λ h. let inside : place < count_in bytes = omega (arith, h, many) in
+    absurd (none place (omega arith) inside (sym (requests_at bytes place inside)
+    ∙ eqb-true _ n (first_holds (λ x. eqb x n) (requests_in bytes) 0 h))))
+    (λ h. h)
+    (below_or_not place (length (requests_in bytes)))
+place_found bytes n (Some i) (_, inside, here, before) =
+    let many = requests_length bytes in (
+      omega (arith, inside, many),
+      first_is (λ x. eqb x n) (requests_in bytes) 0 i (omega (arith, inside, many))
+          (eq-eqb _ n (requests_at bytes i inside ∙ here))
+          (λ k h. let at = requests_at bytes k (omega (arith, h, inside)) in
+          ne_eqb _ n (λ e. before k (omega arith) h (sym at ∙ e))),
+    )
 
-pub lowest_all : {ns : List ℕ} {best i : ℕ} → LowestOf ns best i → length ns ≤ i → Lowest ns best
-lowest_all {ns} {best} {i} l end = record {
-  place = l.place;
-  within = omega (arith, l.before, l.within, end);
-  is = l.is;
-  low = λ j h. l.low j (omega (arith, h, l.within, end));
-}
+-- ---- lowest: what std's `min` finds
+
+-- the lowest of some is that of the lower of the first two and the others
+module _ (x y : ℕ) (ys : List ℕ) (n : ℕ) (low : (i : ℕ) → i < suc (length ys) → n ≤ get_or (min x y ∷ ys) i 0) where
+  low_both : (i : ℕ) → i < suc (suc (length ys)) → n ≤ get_or (x ∷ y ∷ ys) i 0
+  low_both zero h = omega (arith, low 0 (omega arith))
+  low_both (suc zero) h = omega (arith, low 0 (omega arith))
+  low_both (suc (suc i)) h = low (suc i) (omega (arith, h))
+
+  lowest_both : (p : ℕ) → p < suc (length ys) → get_or (min x y ∷ ys) p 0 ≡ n → Lowest (x ∷ y ∷ ys) n
+  lowest_both zero h is =
+      ⊎_elim (λ lt. record { place = 1; within = omega arith; is = omega (arith, is, lt); low = low_both })
+      (λ le. record { place = 0; within = omega arith; is = omega (arith, is, le); low = low_both })
+      (below_or_not y x)
+  lowest_both (suc p) h is =
+      record { place = suc (suc p); within = omega (arith, h); is = is; low = low_both }
+
+lowest_from : (x : ℕ) (xs : List ℕ) → Lowest (x ∷ xs) (fold min x xs)
+lowest_from x [] = record { place = 0; within = omega arith; is = refl; low = go }
+  where
+    go : (i : ℕ) → i < 1 → x ≤ get_or (x ∷ []) i 0
+    go zero h = omega arith
+    go (suc i) h = absurd (omega (arith, h))
+lowest_from x (y ∷ ys) =
+    let l = lowest_from (min x y) ys in
+    lowest_both x y ys (fold min (min x y) ys) l.low l.place l.within l.is
+
+lowest_found : (ns : List ℕ) {many : ℕ} {r : Option ℕ} → length ns ≡ many → r ≡ reduce min ns
+    → MatchOption r (many ≡ 0) (λ n. Lowest ns n)
+lowest_found [] long e = rw e (sym long)
+lowest_found (x ∷ xs) long e = rw e (lowest_from x xs)
+
+-- the requests as the code reads them, place by place
+requests_read : (bytes : List ℕ) → map (request_at bytes) (range_with_len 0 (count_in bytes)) ≡ requests_in bytes
+requests_read bytes =
+    let read = map (request_at bytes) (range_with_len 0 (count_in bytes)) in
+    let many : length read ≡ count_in bytes = length-map-range_with_len (request_at bytes) 0 (count_in bytes) in
+    ext_get_or 0 read (requests_in bytes) (many ∙ sym (requests_length bytes))
+    (λ i h. let inside : i < count_in bytes = omega (arith, h, many) in
+    get_or-map-range_with_len (request_at bytes) 0 (count_in bytes) i i 0 inside (omega arith)
+    ∙ sym (requests_at bytes i inside))
+
+pub lowest_read : (bytes : List ℕ) {r : Option ℕ}
+    → r ≡ reduce min (map (request_at bytes) (range_with_len 0 (count_in bytes)))
+    → MatchOption r (count_in bytes ≡ 0) (λ n. Lowest (requests_in bytes) n)
+lowest_read bytes {r} e =
+    lowest_found (requests_in bytes) (requests_length bytes) (e ∙ ap (reduce min) (requests_read bytes))
 
 -- ---- put_without: what is read
 

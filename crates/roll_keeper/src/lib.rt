@@ -72,7 +72,8 @@ fn count(roll: &[u8; ROLL_BYTES]) -> usize
     usize::from(roll[0]).min(MOST_CONTENDERS)
 }
 
-// The request at a place, as its number.
+// The request at a place, as its number. Three functions ask that a place is below 50: all are of ranges up to the
+// count or the count itself, and a type of places would be made anew from the number at each turn.
 fn request(roll: &[u8; ROLL_BYTES], place: usize) -> u16
     requires { place < most_contenders }
     ensures { result ≡ request_at roll.now place }
@@ -84,27 +85,14 @@ fn request(roll: &[u8; ROLL_BYTES], place: usize) -> u16
 fn place_of(roll: &[u8; ROLL_BYTES], number: u16) -> Option<usize>
     ensures { Found (requests_in roll.now) (number_place number (requests_in roll.now)) result }
 {
-    for place in 0..count(roll) {
-        if request(roll, place) == number {
-            return Some(place);
-        }
-    }
-    None
+    (0..count(roll)).find(|place| request(roll, *place) == number)
 }
 
 // The lowest number of all.
 fn lowest(roll: &[u8; ROLL_BYTES]) -> Option<u16>
     ensures { MatchOption result (count_in roll.now ≡ 0) (λ n. Lowest (requests_in roll.now) n) }
 {
-    let end = count(roll);
-    if end == 0 {
-        return None;
-    }
-    let mut lowest = request(roll, 0);
-    for place in 1..end {
-        lowest = lowest.min(request(roll, place));
-    }
-    Some(lowest)
+    (0..count(roll)).map(|place| request(roll, place)).min()
 }
 
 fn put_request(roll: &mut [u8; ROLL_BYTES], place: usize, number: u16)

@@ -1,23 +1,19 @@
 use mathlib.Core.Path.{◌∙◌, sym}
 use native.Mathlib.Omega.{arith}
-use Rattle.rolls.specs.Kept.{requests_in}
-use Rattle.rolls.proofs.Bytes.{requests_at, requests_length}
-use Rattle.roll_keeper.proofs.Loops.{lowest_all, lowest_more, lowest_one}
+use Rattle.std.proofs.Common.{rules}
+use Rattle.std.proofs.lemmas.Iterator.{YieldsList-from_map, YieldsList-from_range}
+use Rattle.std.proofs.lemmas.Iterator.Adapters.{option_map_id}
+use Rattle.std.proofs.lemmas.Iterator.Consumers.{min_from_yields_List}
+use Rattle.rolls.specs.Kept.{count_in, request_at}
+use Rattle.roll_keeper.proofs.Loops.{lowest_read}
 use Rattle.roll_keeper.proofs.lowest.Goals as goal
-
-pub loop-place-init : goal.loop-place-init
-loop-place-init c =
-    let many = requests_length c.args.roll.now in
-    lowest_one (requests_in c.args.roll.now) c.request-lowest.result (omega arith)
-    (c.request-lowest.ensures ∙ sym (requests_at c.args.roll.now 0 (omega arith)))
-
-pub loop-place-preserved : goal.loop-place-preserved
-loop-place-preserved c =
-    let many = requests_length c.args.roll.now in
-    let at = c.request.ensures ∙ sym (requests_at c.args.roll.now c.loop-place.place (omega arith)) in
-    rw c.min-lowest.ensures (lowest_more c.loop-place.invariant (omega arith) at)
 
 pub returns : goal.returns
 returns c =
-    let many = requests_length c.args.roll.now in
-    lowest_all c.loop-place.invariant (omega arith)
+    let bytes = c.args.roll.now in
+    lowest_read bytes
+    (sym (option_map_id c.min.result)
+    ∙ min_from_yields_List c.map.result _ c.min.ensures.ran
+    (YieldsList-from_map _ (request_at bytes)
+    (YieldsList-from_range 0 _ (count_in bytes) c.map.ensures.source (omega arith))
+    c.map.ensures.closure (λ x r q k. search rules)))
