@@ -10,13 +10,14 @@ use crate::scalars::{flag, frame_bytes, frame_from, registers_bytes, registers_f
 use rules::state::Core;
 use unit::step::Unit;
 
+// Each part is as long as its array, so that nothing is unwrapped in vain.
 #[tactic(auto, unfolding(keeping::specs::Decode::decode))]
 fn core_from(state: &[u8; STATE_BYTES]) -> Core
     ensures { result ≡ (decode state.now).core }
 {
     Core {
-        regs: registers_from(&state[0..REGISTERS_END]),
-        frame: frame_from(&state[REGISTERS_END..FRAME_END]),
+        regs: registers_from(state[0..REGISTERS_END].as_array().unwrap()),
+        frame: frame_from(state[REGISTERS_END..FRAME_END].as_array().unwrap()),
         idle: flag(state[IDLE_PLACE]),
     }
 }

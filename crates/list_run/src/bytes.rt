@@ -2,7 +2,7 @@
 ghost use Rattle.std.specs.Prelude.{◌≡◌, ◌+◌, ◌≤◌, length};
 ghost use Rattle.unit.specs.Unit.{state_of};
 ghost use Rattle.lists.specs.Bytes.{CalledBytes, byte_refusal, state_after, words_of};
-ghost use Rattle.list_run.specs.Run.{RunsSpelled, Whole, number_of, unit_left, unit_or, word_at, word_put};
+ghost use Rattle.list_run.specs.Run.{RunsSpelled, number_of, unit_left, unit_or, word_at, word_put};
 
 use answers::{ListError, answer_word, check_bytes};
 use lent::step::Lent;
@@ -37,8 +37,7 @@ fn run_spelled(
     tbf: &mut [u8; TBF_BYTES],
     rbf: &mut [u8; RBF_BYTES],
 ) -> Lent
-    requires taken { byte_refusal words.now answers.old ≡ 0 }
-    requires whole { Whole tbf.old rbf.old }
+    requires { byte_refusal words.now answers.old ≡ 0 }
     ensures { RunsSpelled lent words.now answers.old answers.new
         tbf.old tbf.new rbf.old rbf.new result }
 {
