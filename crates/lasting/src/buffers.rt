@@ -18,7 +18,8 @@ fn unroll<const ROOM: usize>(to: &mut [u8], buffer: &Buffer<ROOM>)
 }
 
 // A buffer, unrolled so that the oldest byte comes first, behind the count of those that it holds; zeros stand in the
-// places that hold none, so that a buffer is spelled in one way only.
+// places that hold none, so that a buffer is spelled in one way only. A slice, as is what is read below: the kit has no
+// array of ROOM + 1 places.
 pub(crate) fn put_buffer<const ROOM: usize>(to: &mut [u8], buffer: Buffer<ROOM>)
     requires { (length to.old ≡ ROOM + 1) × (ROOM < 256) }
     ensures { to.new ≡ buffer_bytes ROOM (circle_of ROOM buffer.entry.bytes buffer.entry.span) }

@@ -59,9 +59,9 @@ impl Error for CallError {}
 pub fn reset(state: &mut [u8]) -> Result<(), CallError>
     ensures { Reset state.old (number_of result) state.new }
 {
-    if state.len() != STATE_BYTES {
+    let Some(state) = state.as_mut_array::<STATE_BYTES>() else {
         return Err(CallError::StateSize);
-    }
+    };
     put_unit(state, Unit::reset());
     Ok(())
 }
@@ -76,9 +76,9 @@ pub fn run(state: &mut [u8], words: &[u8], answers: &mut [u8]) -> Result<(), Cal
 {
     // "The lowest number wins": the lists come before the size.
     check_bytes(words.len(), answers.len())?;
-    if state.len() != STATE_BYTES {
+    let Some(state) = state.as_mut_array::<STATE_BYTES>() else {
         return Err(CallError::StateSize);
-    }
+    };
     let left = run_bytes(unit_from(state), words, answers)?;
     put_unit(state, left);
     Ok(())

@@ -1,10 +1,9 @@
 // The registers and the frame under way, as bytes and back.
-ghost use Rattle.std.specs.Prelude.{[], ◌∷◌, ◌++◌, ◌≡◌, ◌-◌, length};
+ghost use Rattle.std.specs.Prelude.{[], ◌∷◌, ◌++◌, ◌≡◌};
 ghost use Rattle.line.specs.Choice.{bit_of};
 ghost use Rattle.keeping.specs.Decode.{flag_of, frame_in, joined, place_of, registers_in};
 ghost use Rattle.keeping.specs.Encode.{FrameFits, RegistersFit, frame_bytes, high, low, place_count, place_number};
 ghost use Rattle.keeping.specs.Encode.{register_bytes};
-ghost use Rattle.keeping.specs.Layout.{frame_end, registers_end};
 
 use crate::layout::{FRAME_BYTES, REGISTERS_END};
 use place::{Field, Frame, Place};
@@ -65,8 +64,7 @@ pub(crate) fn registers_bytes(r: Registers) -> [u8; REGISTERS_END]
 }
 
 #[tactic(auto, unfolding(keeping::specs::Decode::registers_in))]
-pub(crate) fn registers_from(b: &[u8]) -> Registers
-    requires { length b.now ≡ registers_end }
+pub(crate) fn registers_from(b: &[u8; REGISTERS_END]) -> Registers
     ensures { result ≡ registers_in b.now }
 {
     Registers {
@@ -162,8 +160,7 @@ pub(crate) fn frame_bytes(f: Frame, idle: bool) -> [u8; FRAME_BYTES]
 }
 
 #[tactic(auto, unfolding(keeping::specs::Decode::frame_in))]
-pub(crate) fn frame_from(b: &[u8]) -> Frame
-    requires { length b.now ≡ frame_end - registers_end }
+pub(crate) fn frame_from(b: &[u8; FRAME_BYTES]) -> Frame
     ensures { result ≡ frame_in b.now }
 {
     Frame {

@@ -2,7 +2,7 @@
 ghost use Rattle.std.specs.Prelude.{◌≡◌, ◌+◌, ◌≤◌, length};
 ghost use Rattle.unit.specs.Unit.{state_of};
 ghost use Rattle.lists.specs.Bytes.{CalledBytes, byte_refusal, state_after, words_of};
-ghost use Rattle.list_run.specs.Run.{RunsSpelled, Whole, number_of, unit_left, unit_or, word_at, word_put};
+ghost use Rattle.list_run.specs.Run.{RunsSpelled, number_of, unit_left, unit_or, word_at, word_put};
 
 use answers::{ListError, answer_word, check_bytes};
 use lent::step::Lent;
@@ -12,7 +12,8 @@ use unit::step::Unit;
 // How many bytes spell a word.
 const WORD_BYTES: usize = 4;
 
-// The word that starts at a place of a byte list, the lowest byte first.
+// The word that starts at a place of a byte list, the lowest byte first. Of its own, with the size above: it is one call
+// of the library, and the unit does not rest on `words`, which is for the programs and counts places in words.
 fn word_at(bytes: &[u8], at: usize) -> u32
     requires { at + 4 ≤ length bytes.now }
     ensures { result ≡ word_at bytes.now at }
@@ -29,7 +30,8 @@ fn put_word(bytes: &mut [u8], at: usize, word: u32)
 }
 
 // The words that bytes spell, run in order by a unit whose buffers are lent; what stands past the last answer is kept.
-// A loop of its own beside that of `run`: words there are places of a u32 slice, and four bytes here.
+// A loop of its own beside that of `run`: words there are places of a u32 slice, and four bytes here. It goes over
+// places: tried with `chunks_exact_mut`, after which the kit says nothing of what the list that was cut holds.
 fn run_spelled(
     mut lent: Lent,
     words: &[u8],
@@ -37,8 +39,7 @@ fn run_spelled(
     tbf: &mut [u8; TBF_BYTES],
     rbf: &mut [u8; RBF_BYTES],
 ) -> Lent
-    requires taken { byte_refusal words.now answers.old ≡ 0 }
-    requires whole { Whole tbf.old rbf.old }
+    requires { byte_refusal words.now answers.old ≡ 0 }
     ensures { RunsSpelled lent words.now answers.old answers.new
         tbf.old tbf.new rbf.old rbf.new result }
 {

@@ -2,7 +2,7 @@
 ghost use Rattle.std.specs.Prelude.{◌≡◌, ◌≤◌, length};
 ghost use Rattle.unit.specs.Unit.{state_of};
 ghost use Rattle.lists.specs.Run.{Called};
-ghost use Rattle.list_run.specs.Run.{RunsLent, Whole, number_of, unit_left, unit_or};
+ghost use Rattle.list_run.specs.Run.{RunsLent, number_of, unit_left, unit_or};
 
 use answers::{ListError, answer_word};
 use lent::step::Lent;
@@ -17,8 +17,7 @@ fn run_lent(
     tbf: &mut [u8; TBF_BYTES],
     rbf: &mut [u8; RBF_BYTES],
 ) -> Lent
-    requires room { length words.now ≤ length answers.old }
-    requires whole { Whole tbf.old rbf.old }
+    requires { length words.now ≤ length answers.old }
     ensures { RunsLent lent words.now answers.old answers.new tbf.old
         tbf.new rbf.old rbf.new result }
 {

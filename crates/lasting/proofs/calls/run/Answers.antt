@@ -24,11 +24,11 @@ returns-in_err-check_bytes c =
       protected = holds;
     })
 
-pub returns-then-state-ne-STATE_BYTES : goal.returns-then-state-ne-STATE_BYTES
+pub returns-in_default : goal.returns-in_default
 unfolding run_refusal run_answers run_bytes run_state size_refusal
-returns-then-state-ne-STATE_BYTES c =
+returns-in_default c =
     let none = c.in_ok-check_bytes.ensures in
-    let wrong = ne_eqb _ _ c.if-state-ne-STATE_BYTES.true in
+    let wrong = ne_eqb _ _ c.in_default.ensures.cases in
     record {
       ends = simp (← none, wrong);
       written = simp (← none, wrong);
@@ -40,8 +40,9 @@ returns-then-state-ne-STATE_BYTES c =
 
 pub returns : goal.returns
 returns c =
+    let whole = c.in-Some.ensures.cases in
     let all = promised _ _ _ _ _ _ _ (sym c.in_ok-check_bytes.ensures)
-    c.if-state-ne-STATE_BYTES.false c.unit_from.ensures c.in_ok-left.ensures.left c.in_ok-left.ensures.called.written
+    whole.long (rw whole.same at c.unit_from.ensures) c.in_ok-left.ensures.left c.in_ok-left.ensures.called.written
     c.put_unit.ensures in
     record {
       ends = sym all.number;

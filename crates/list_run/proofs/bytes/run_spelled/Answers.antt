@@ -7,7 +7,7 @@ use Rattle.list_run.proofs.bytes.run_spelled.Goals as goal
 
 pub loop-at-init : goal.loop-at-init
 loop-at-init c =
-    none_spelled_in _ _ _ _ _ c.requires.taken c.requires.whole
+    none_spelled_in _ _ _ _ _ c.requires (c.told-tbf, c.told-rbf)
 
 pub loop-at-preserved-in_default : goal.loop-at-preserved-in_default
 loop-at-preserved-in_default c =

@@ -5,12 +5,12 @@ use Rattle.list_run.proofs.run.run_lent.Goals as goal
 
 pub loop-i-preserved-in_default : goal.loop-i-preserved-in_default
 loop-i-preserved-in_default c =
-    one_run_in c.loop-i.invariant c.loop-i-test.true c.requires.room
+    one_run_in c.loop-i.invariant c.loop-i-test.true c.requires
     c.step-after.ensures _ c.answer_word.ensures
 
 pub loop-i-preserved : goal.loop-i-preserved
 loop-i-preserved c =
-    one_run_in c.loop-i.invariant c.loop-i-test.true c.requires.room
+    one_run_in c.loop-i.invariant c.loop-i-test.true c.requires
     c.step-after.ensures _ (c.answer_word-in-loop-i.ensures ∙ sym (ap word_of c.in-Ok.is))
 
 pub returns : goal.returns
