@@ -12,8 +12,8 @@ use unit::step::Unit;
 // How many bytes spell a word.
 const WORD_BYTES: usize = 4;
 
-// The word that starts at a place of a byte list, the lowest byte first. Of its own, with the size above: it is one call
-// of the library, and the unit does not rest on `words`, which is for the programs and counts places in words.
+// The word that starts at a place of a byte list, the lowest byte first. Of its own, with the size above: it is one
+// call of the library, and the unit does not rest on `words`, which is for the programs and counts places in words.
 fn word_at(bytes: &[u8], at: usize) -> u32
     requires { at + 4 ≤ length bytes.now }
     ensures { result ≡ word_at bytes.now at }
