@@ -18,6 +18,7 @@ fn digit(unit: u32, n: u32) -> u8
     }
 }
 
+// Not by a formatter, as every byte of a text is promised, and no contract says what bytes one writes.
 #[tactic(auto, unfolding(crate::specs::Forms::column_of))]
 fn column(n: u32) -> [u8; 5]
     ensures { result ≡ column_of n }

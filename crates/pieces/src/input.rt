@@ -32,7 +32,7 @@ pub fn read_full<R: Read>(input: &mut R, bytes: &mut [u8]) -> usize
 }
 
 // An argument goes to the front of the list; the number says how long it is, 0 where it is missing or longer than the
-// list. The program's own name is argument 0.
+// list: whoever asks takes an empty argument as none. The program's own name is argument 0.
 pub fn argument(rt: &impl Env, place: usize, bytes: &mut [u8]) -> usize
     ensures { result ≤ length bytes.new }
 {

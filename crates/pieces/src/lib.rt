@@ -41,7 +41,7 @@ fn grown(n: u16, byte: u8) -> Option<u16>
     }
 }
 
-// The number that a text says, up to 65,535, where it says one.
+// The number that a text says, up to 65,535, where it says one. Not by `parse`, which takes `+5` for one too.
 pub fn number(text: &[u8]) -> Option<u16>
     ensures { result ≡ number_of text.now }
 {

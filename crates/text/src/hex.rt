@@ -8,7 +8,8 @@ const DIGITS: usize = 8;
 // Eight digits, a space, eight digits and the line's end.
 pub const LINE_BYTES: usize = 18;
 
-// The capital digit of a number's lowest four bits.
+// The capital digit of a number's lowest four bits. Not by a formatter: every byte of a listing is promised, and no
+// contract says what bytes one writes.
 fn digit(n: u32) -> u8
     ensures { result ≡ digit_of n }
 {

@@ -40,7 +40,8 @@ fn words_listed(bytes: usize) -> usize
     bytes.min(MOST_BYTES) / WORD_BYTES
 }
 
-// Writes a piece into the text, from a place on. The place of each is known: no writer carries one along.
+// Writes a piece into the text, from a place on. The place of each is known: no writer carries one along. Unlike `put`
+// of `pieces` it has room, and cuts nothing off.
 fn put(text: &mut [u8], at: usize, piece: &[u8])
     requires { at + length piece.now ≤ length text.old }
     ensures { text.new ≡ pasted text.old at piece.now }
@@ -65,7 +66,7 @@ fn put_lines(input: &[u8], answers: &[u8], text: &mut [u8]) -> usize
 
 // The listing of an input, whose words are answered by those of the second list, goes to the front of the text; the
 // number says how long it is. The rest of the text stays as it was, and so does a text too short for the longest
-// listing, whatever the input: the number is then 0.
+// listing, whatever the input: nothing is written then, and the number is 0 as that of anything that is written.
 #[tactic(auto, unfolding(crate::specs::Listing::listed_of))]
 pub fn listing(input: &[u8], answers: &[u8], text: &mut [u8]) -> usize
     ensures count { result ≡ length (listed_of input.now answers.now (length text.old)) }

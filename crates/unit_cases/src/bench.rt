@@ -261,6 +261,7 @@ impl Bench {
         }
     }
 
+    // By its letter, as the text's head has it; an enum of letters would be the same table once more.
     fn number_of(&self, letter: u8) -> u64 {
         match letter {
             b'a' => u64::from(self.answer),
@@ -279,7 +280,7 @@ impl Bench {
         }
     }
 
-    // Where nobody reads what is printed, nothing is left to do.
+    // By its letter too. Where nobody reads what is printed, nothing is left to do.
     fn shows(&self, rt: &impl Print, letter: u8) {
         let number = self.number_of(letter);
         let _ = match letter {

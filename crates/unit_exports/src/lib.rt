@@ -12,7 +12,8 @@ use lasting::calls::CallError;
 use list_run::bytes::run_bytes;
 use unit::step::Unit;
 
-// What C is told: 0, or the number of the refusal.
+// What C is told: 0, or the number of the refusal. Other crates say so of their own errors: one function for all would
+// need a trait with the number and its law, and an `impl` for each error, which is no plainer than this `match`.
 fn number(done: Result<(), CallError>) -> u32
     ensures { result ≡ number_of done }
 {
