@@ -72,8 +72,8 @@ fn count(roll: &[u8; ROLL_BYTES]) -> usize
     usize::from(roll[0]).min(MOST_CONTENDERS)
 }
 
-// The request at a place, as its number. Three functions ask that a place is below 50: all are of ranges up to the
-// count or the count itself, and a type of places would be made anew from the number at each turn.
+// The request at a place, as its number. Three functions ask that a place is below 50, and no type says it: places are
+// of ranges up to the count, or the count, and each turn would have to make the type from its number.
 fn request(roll: &[u8; ROLL_BYTES], place: usize) -> u16
     requires { place < most_contenders }
     ensures { result ≡ request_at roll.now place }
