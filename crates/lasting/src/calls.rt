@@ -59,11 +59,13 @@ impl Error for CallError {}
 pub fn reset(state: &mut [u8]) -> Result<(), CallError>
     ensures { Reset state.old (number_of result) state.new }
 {
-    let Some(state) = state.as_mut_array::<STATE_BYTES>() else {
-        return Err(CallError::StateSize);
-    };
-    put_unit(state, Unit::reset());
-    Ok(())
+    match state.as_mut_array::<STATE_BYTES>() {
+        Some(state) => {
+            put_unit(state, Unit::reset());
+            Ok(())
+        }
+        None => Err(CallError::StateSize),
+    }
 }
 
 // The words run from the unit that `state` keeps, which then keeps the unit that is left. The answer to the word at
