@@ -35,8 +35,7 @@ fn bad_ranges(s: Setting) -> bool
         | meet(s.one, s.start)
 }
 
-// A pulse's two ends stay 32 bits wide, here and below, and are no `Range::in_word`: over ends that are cut to 16 bits the
-// loops took a third to two thirds more instructions.
+// A pulse's ends stay as wide as its word: by `Range::in_word`, of 16 bits each, a list took a third more instructions.
 fn bad_pulse(pulse: u32) -> bool
     ensures { result ≡ bad_pulse pulse }
 {
