@@ -157,11 +157,9 @@ unfolding levels_from
 followed_here {slots} {from} {i} f more high =
     ended f (ap levels_from (cut slots i more) ∙ simp (le-ltb (get_or slots i 0) slot_start high))
 
-pub followed_all : {slots : List ℕ} {from i : ℕ} → Followed slots from i → i ≡ length slots
-    → LevelsEnd slots from (length slots)
+pub followed_all : {slots : List ℕ} {from i : ℕ} → Followed slots from i → length slots ≤ i → LevelsEnd slots from i
 unfolding levels_from
-followed_all {slots} {from} {i} f all =
-    rw (← all) (ended f (ap levels_from (drop_of_length-le slots {i = i} (omega arith))))
+followed_all {slots} {from} {i} f over = ended f (ap levels_from (drop_of_length-le slots {i = i} over))
 
 -- ---- number
 

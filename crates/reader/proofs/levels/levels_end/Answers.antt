@@ -1,4 +1,6 @@
+use mathlib.Core.Path.{◌≡◌}
 use native.Mathlib.Omega.{arith}
+use lib.ListN.{length}
 use Rattle.reader.proofs.Slots.{followed_ahead, followed_all, followed_here, followed_none, followed_one}
 use Rattle.reader.proofs.levels.levels_end.Goals as goal
 
@@ -24,4 +26,5 @@ loop-place-preserved c =
 
 pub returns : goal.returns
 returns c =
-    followed_all c.loop-place.invariant (omega arith)
+    let all : c.loop-place.place ≡ length c.args.slots.now = omega arith in
+    rw (← all) (followed_all c.loop-place.invariant c.loop-place-test.false)
