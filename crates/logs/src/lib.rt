@@ -41,8 +41,8 @@ impl fmt::Display for LogError {
 
 impl Error for LogError {}
 
-// Whether some word is no slot word. All words are laid over each other: the digits of slot words make a slot word, and a
-// word that is none leaves a digit that no slot word has. One test of all of them is cheaper than a test of each.
+// Whether some word is no slot word. The words are laid over each other: slot words then make a slot word, and a word
+// that is none leaves a digit that no slot word has. To look at every word and test once is cheaper than a test of each.
 pub fn strays(slots: &[u32]) -> bool
     ensures { result ≡ stray_in slots.now }
 {

@@ -49,8 +49,8 @@ pub(crate) fn levels_end(slots: &[u32], from: usize) -> usize
     while eight_levels(slots, i) {
         i += 8;
     }
-    // a place in each turn, too: `position` among the slots that are left takes two instructions more for each eight
-    // slots before, and six for each frame
+    // by place, too: with `position` among the slots that are left, the eight before take two instructions more, and a
+    // frame six
     for place in i..slots.len() {
         if SLOT_HIGH < slots[place] {
             return place;

@@ -22,13 +22,14 @@ put_record-entry-requires-clause-low c =
 pub loop-start-smaller : goal.loop-start-smaller
 loop-start-smaller c =
     let s = rw c.in-Some.is at c.loop-start.invariant in
-    rw c.in-Some.is (nearer s c.requires c.levels_end-end.ensures c.next_start-start-in-Some.result c.next_start-start-in-Some.ensures)
+    let later = c.next_start-start-in-Some in
+    rw c.in-Some.is (nearer s c.requires c.levels_end-end.ensures later.result later.ensures)
 
 pub loop-start-preserved : goal.loop-start-preserved
 loop-start-preserved c =
     rw c.acked.ensures
     (so_far_one (rw c.in-Some.is at c.loop-start.invariant) c.requires c.levels_end-end.ensures
-    c.put_record-entry.ensures c.next_start-start-in-Some.result c.next_start-start-in-Some.ensures)
+    c.put_record-entry.ensures _ c.next_start-start-in-Some.ensures)
 
 pub returns-clause-records_after : goal.returns-clause-records_after
 returns-clause-records_after c =
