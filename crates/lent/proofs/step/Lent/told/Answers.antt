@@ -11,8 +11,8 @@ use Rattle.lent.proofs.step.Lent.told.Goals as goal
 pub returns-then-word-ne0 : goal.returns-then-word-ne0
 returns-then-word-ne0 c = (
   refl,
-  λ full. told_write_stray (loan_in c.args.self c.args.tbf.now c.args.rbf.now) c.args.word
-      (eq-eqb _ _ c.in-1.is) (ne_eqb _ _ c.if-word-ne0.true),
+  λ full. rw c.done.ensures (told_write_stray (loan_in c.args.self c.args.tbf.now c.args.rbf.now) c.args.word
+      (eq-eqb _ _ c.in-1.is) (ne_eqb _ _ c.if-word-ne0.true)),
 )
 
 pub returns-else-word-ne0 : goal.returns-else-word-ne0
@@ -26,8 +26,8 @@ returns-else-word-ne0 c = (
 pub returns-then-word-ne0-2 : goal.returns-then-word-ne0-2
 returns-then-word-ne0-2 c = (
   refl,
-  λ full. told_read_stray (loan_in c.args.self c.args.tbf.now c.args.rbf.now) c.args.word
-      (ap (λ (kind : ℕ). eqb kind kind_write) c.in-2.is) (eq-eqb _ _ c.in-2.is) (ne_eqb _ _ c.if-word-ne0-2.true),
+  λ full. rw c.done-then-word-ne0-2.ensures (told_read_stray (loan_in c.args.self c.args.tbf.now c.args.rbf.now) c.args.word
+      (ap (λ (kind : ℕ). eqb kind kind_write) c.in-2.is) (eq-eqb _ _ c.in-2.is) (ne_eqb _ _ c.if-word-ne0-2.true)),
 )
 
 pub returns-else-word-ne0-2 : goal.returns-else-word-ne0-2
@@ -41,6 +41,6 @@ returns-else-word-ne0-2 c = (
 pub returns-in_default : goal.returns-in_default
 returns-in_default c = (
   refl,
-  λ full. told_refused (loan_in c.args.self c.args.tbf.now c.args.rbf.now) c.args.word
-      (ne_eqb _ _ (λ e. omega arith)) (ne_eqb _ _ (λ e. omega arith)),
+  λ full. rw c.done-in_default.ensures (told_refused (loan_in c.args.self c.args.tbf.now c.args.rbf.now) c.args.word
+      (ne_eqb _ _ (λ e. omega arith)) (ne_eqb _ _ (λ e. omega arith))),
 )
