@@ -10,25 +10,22 @@ use line::numbers::{
 use refusals::{check_read, check_write};
 use registers::{read_value, write};
 use rules::answer::Refusal;
-use rules::state::Core;
 
 impl Lent {
     // An accepted write.
-    fn write_done(self, register: u8, v: u8, tbf: &mut [u8; TBF_BYTES]) -> Done
+    fn write_done(mut self, register: u8, v: u8, tbf: &mut [u8; TBF_BYTES]) -> Done
         ensures { Does self register v tbf.old tbf.new result }
     {
         if register == REG_TBF {
             let sent = push(tbf, self.tbf, v);
-            return Lent { tbf: sent, ..self }.done(Ok(Outcome::Written));
+            self.tbf = sent;
+            return self.done(Ok(Outcome::Written));
         }
         if (register == REG_CTR) & (v == CTR_RESET) {
             return Lent::reset().done(Ok(Outcome::Written));
         }
-        let core = Core {
-            regs: write(self.core.regs, register, v),
-            ..self.core
-        };
-        Lent { core, ..self }.done(Ok(Outcome::Written))
+        self.core.regs = write(self.core.regs, register, v);
+        self.done(Ok(Outcome::Written))
     }
 
     fn write(self, register: u8, v: u8, tbf: &mut [u8; TBF_BYTES]) -> Done
@@ -42,12 +39,13 @@ impl Lent {
     }
 
     // The oldest byte of RBF is read, and leaves it.
-    fn read_rbf(self, rbf: &[u8; RBF_BYTES]) -> Done
+    fn read_rbf(mut self, rbf: &[u8; RBF_BYTES]) -> Done
         ensures { TakesOut self rbf.now result }
     {
         let byte = front(rbf, self.rbf);
         let rest = without_oldest(RBF_BYTES, self.rbf);
-        Lent { rbf: rest, ..self }.done(Ok(Outcome::Read(byte)))
+        self.rbf = rest;
+        self.done(Ok(Outcome::Read(byte)))
     }
 
     fn read(self, register: u8, rbf: &[u8; RBF_BYTES]) -> Done

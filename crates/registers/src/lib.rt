@@ -20,21 +20,17 @@ use rules::state::{Core, Registers};
 // "Copy the lock into LOR, zeros if unlocked"; "LOR1 (low 8), LOR2 (high half 0001 if locked; low half address high
 // 4)".
 #[tactic(auto, unfolding(rules::specs::Registers::lor_copied))]
-fn lor_copied(regs: Registers) -> Registers
+fn lor_copied(mut regs: Registers) -> Registers
     ensures { result ≡ lor_copied regs }
 {
     if regs.locked {
-        return Registers {
-            lor1: (regs.holder % 256) as u8,
-            lor2: 16 + (regs.holder / 256 % 16) as u8,
-            ..regs
-        };
+        regs.lor1 = (regs.holder % 256) as u8;
+        regs.lor2 = 16 + (regs.holder / 256 % 16) as u8;
+        return regs;
     }
-    Registers {
-        lor1: 0,
-        lor2: 0,
-        ..regs
-    }
+    regs.lor1 = 0;
+    regs.lor2 = 0;
+    regs
 }
 
 // A master request: "RDR1 is 0 at a master request"; losses are counted afresh.
@@ -50,51 +46,50 @@ fn request_made(mut regs: Registers) -> Registers
 
 // A command of CMR that is accepted.
 #[tactic(auto, unfolding(rules::specs::Registers::commanded))]
-fn command(regs: Registers, v: u8) -> Registers
+fn command(mut regs: Registers, v: u8) -> Registers
     ensures { result ≡ commanded regs v }
 {
     match v {
         CMR_REQUEST => request_made(regs),
-        CMR_OFFER => Registers { strq: true, ..regs },
-        CMR_CLEAR_SLRE => Registers {
-            slre: false,
-            ..regs
-        },
+        CMR_OFFER => {
+            regs.strq = true;
+            regs
+        }
+        CMR_CLEAR_SLRE => {
+            regs.slre = false;
+            regs
+        }
         _ => lor_copied(regs),
     }
 }
 
 // "UAR1 (own address low 4 bits, then 0, 0, sending enabled, mode)".
 #[tactic(auto, unfolding(rules::specs::Registers::uar1_written))]
-fn uar1_written(regs: Registers, v: u8) -> Registers
+fn uar1_written(mut regs: Registers, v: u8) -> Registers
     ensures { result ≡ uar1_written regs v }
 {
-    Registers {
-        own: regs.own / 16 * 16 + u16::from(v / 16),
-        enabled: v / 2 % 2 == 1,
-        long: v % 2 == 1,
-        ..regs
-    }
+    regs.own = regs.own / 16 * 16 + u16::from(v / 16);
+    regs.enabled = v / 2 % 2 == 1;
+    regs.long = v % 2 == 1;
+    regs
 }
 
 // "MCR (broadcast bit as on the wire, retries 0 to 7, control)".
 #[tactic(auto, unfolding(rules::specs::Registers::mcr_written))]
-fn mcr_written(regs: Registers, v: u8) -> Registers
+fn mcr_written(mut regs: Registers, v: u8) -> Registers
     ensures { result ≡ mcr_written regs v }
 {
-    Registers {
-        bit: 0x80 <= v,
-        retries: v / 16 % 8,
-        control: v % 16,
-        ..regs
-    }
+    regs.bit = 0x80 <= v;
+    regs.retries = v / 16 % 8;
+    regs.control = v % 16;
+    regs
 }
 
-fn ctr_written(regs: Registers, v: u8) -> Registers
+fn ctr_written(mut regs: Registers, v: u8) -> Registers
     ensures { result ≡ pick (eqb v ctr_set_slre) (registers·slre true regs) regs }
 {
     if v == CTR_SET_SLRE {
-        return Registers { slre: true, ..regs };
+        regs.slre = true;
     }
     regs
 }
@@ -102,7 +97,7 @@ fn ctr_written(regs: Registers, v: u8) -> Registers
 // The registers after an accepted write but a reset's and TBF's. The register is a number, as in `check_write`: what is
 // written to one that is not listed is said too.
 #[tactic(auto, unfolding(rules::specs::Registers::written))]
-pub fn write(regs: Registers, register: u8, v: u8) -> Registers
+pub fn write(mut regs: Registers, register: u8, v: u8) -> Registers
     ensures { result ≡ written regs register v }
 {
     let half = u16::from(v / 16);
@@ -111,18 +106,18 @@ pub fn write(regs: Registers, register: u8, v: u8) -> Registers
         REG_CTR => ctr_written(regs, v),
         REG_CMR => command(regs, v),
         REG_UAR1 => uar1_written(regs, v),
-        REG_UAR2 => Registers {
-            own: byte * 16 + regs.own % 16,
-            ..regs
-        },
-        REG_SAR1 => Registers {
-            slave: regs.slave / 16 * 16 + half,
-            ..regs
-        },
-        REG_SAR2 => Registers {
-            slave: byte * 16 + regs.slave % 16,
-            ..regs
-        },
+        REG_UAR2 => {
+            regs.own = byte * 16 + regs.own % 16;
+            regs
+        }
+        REG_SAR1 => {
+            regs.slave = regs.slave / 16 * 16 + half;
+            regs
+        }
+        REG_SAR2 => {
+            regs.slave = byte * 16 + regs.slave % 16;
+            regs
+        }
         _ => mcr_written(regs, v),
     }
 }

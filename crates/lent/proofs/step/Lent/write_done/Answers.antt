@@ -28,7 +28,7 @@ returns-then-register-v c = (
 pub returns : goal.returns
 returns c = (
   refl,
-  λ r full. rw (c.done-2.ensures, c.write.ensures)
+  λ r full. rw (c.done-2.ensures, c.write-self.ensures)
       (done_other (loan_in c.args.self c.args.tbf.now r) c.args.register c.args.v (ne_eqb _ _
       c.if-register-eq-REG_TBF.false) c.if-register-v.false),
 )
