@@ -7,7 +7,8 @@ ghost use Rattle.line.specs.Choice.{bit_of, pick};
 ghost use Rattle.line.specs.Numbers.{ctr_set_slre};
 ghost use Rattle.rules.specs.Registers.{commanded, flg_byte, lor_copied, mcr_written, rcr_byte, read_value, requested};
 ghost use Rattle.rules.specs.Registers.{str_byte, uar1_written, written};
-ghost use Rattle.rules.specs.Set.{registers·slre};
+ghost use Rattle.rules.specs.Set.{registers·lor1, registers·lor2, registers·own, registers·slave, registers·slre};
+ghost use Rattle.rules.specs.Set.{registers·strq};
 ghost use Rattle.rules.specs.State.{reset_core, reset_registers};
 
 use line::numbers::{
@@ -17,20 +18,26 @@ use line::numbers::{
 };
 use rules::state::{Core, Registers};
 
+fn with_lor(mut regs: Registers, lor1: u8, lor2: u8) -> Registers
+    ensures { result ≡ registers·lor2 lor2 (registers·lor1 lor1 regs) }
+{
+    regs.lor1 = lor1;
+    regs.lor2 = lor2;
+    regs
+}
+
 // "Copy the lock into LOR, zeros if unlocked"; "LOR1 (low 8), LOR2 (high half 0001 if locked; low half address high
 // 4)".
 #[tactic(auto, unfolding(rules::specs::Registers::lor_copied))]
-fn lor_copied(mut regs: Registers) -> Registers
+fn lor_copied(regs: Registers) -> Registers
     ensures { result ≡ lor_copied regs }
 {
     if regs.locked {
-        regs.lor1 = (regs.holder % 256) as u8;
-        regs.lor2 = 16 + (regs.holder / 256 % 16) as u8;
-        return regs;
+        let low = (regs.holder % 256) as u8;
+        let high = (regs.holder / 256 % 16) as u8;
+        return with_lor(regs, low, 16 + high);
     }
-    regs.lor1 = 0;
-    regs.lor2 = 0;
-    regs
+    with_lor(regs, 0, 0)
 }
 
 // A master request: "RDR1 is 0 at a master request"; losses are counted afresh.
@@ -44,23 +51,45 @@ fn request_made(mut regs: Registers) -> Registers
     regs
 }
 
+fn with_strq(mut regs: Registers) -> Registers
+    ensures { result ≡ registers·strq true regs }
+{
+    regs.strq = true;
+    regs
+}
+
+fn with_slre(mut regs: Registers, set: bool) -> Registers
+    ensures { result ≡ registers·slre set regs }
+{
+    regs.slre = set;
+    regs
+}
+
 // A command of CMR that is accepted.
 #[tactic(auto, unfolding(rules::specs::Registers::commanded))]
-fn command(mut regs: Registers, v: u8) -> Registers
+fn command(regs: Registers, v: u8) -> Registers
     ensures { result ≡ commanded regs v }
 {
     match v {
         CMR_REQUEST => request_made(regs),
-        CMR_OFFER => {
-            regs.strq = true;
-            regs
-        }
-        CMR_CLEAR_SLRE => {
-            regs.slre = false;
-            regs
-        }
+        CMR_OFFER => with_strq(regs),
+        CMR_CLEAR_SLRE => with_slre(regs, false),
         _ => lor_copied(regs),
     }
+}
+
+fn with_own(mut regs: Registers, own: u16) -> Registers
+    ensures { result ≡ registers·own own regs }
+{
+    regs.own = own;
+    regs
+}
+
+fn with_slave(mut regs: Registers, slave: u16) -> Registers
+    ensures { result ≡ registers·slave slave regs }
+{
+    regs.slave = slave;
+    regs
 }
 
 // "UAR1 (own address low 4 bits, then 0, 0, sending enabled, mode)".
@@ -85,11 +114,11 @@ fn mcr_written(mut regs: Registers, v: u8) -> Registers
     regs
 }
 
-fn ctr_written(mut regs: Registers, v: u8) -> Registers
+fn ctr_written(regs: Registers, v: u8) -> Registers
     ensures { result ≡ pick (eqb v ctr_set_slre) (registers·slre true regs) regs }
 {
     if v == CTR_SET_SLRE {
-        regs.slre = true;
+        return with_slre(regs, true);
     }
     regs
 }
@@ -97,7 +126,7 @@ fn ctr_written(mut regs: Registers, v: u8) -> Registers
 // The registers after an accepted write but a reset's and TBF's. The register is a number, as in `check_write`: what is
 // written to one that is not listed is said too.
 #[tactic(auto, unfolding(rules::specs::Registers::written))]
-pub fn write(mut regs: Registers, register: u8, v: u8) -> Registers
+pub fn write(regs: Registers, register: u8, v: u8) -> Registers
     ensures { result ≡ written regs register v }
 {
     let half = u16::from(v / 16);
@@ -106,18 +135,9 @@ pub fn write(mut regs: Registers, register: u8, v: u8) -> Registers
         REG_CTR => ctr_written(regs, v),
         REG_CMR => command(regs, v),
         REG_UAR1 => uar1_written(regs, v),
-        REG_UAR2 => {
-            regs.own = byte * 16 + regs.own % 16;
-            regs
-        }
-        REG_SAR1 => {
-            regs.slave = regs.slave / 16 * 16 + half;
-            regs
-        }
-        REG_SAR2 => {
-            regs.slave = byte * 16 + regs.slave % 16;
-            regs
-        }
+        REG_UAR2 => with_own(regs, byte * 16 + regs.own % 16),
+        REG_SAR1 => with_slave(regs, regs.slave / 16 * 16 + half),
+        REG_SAR2 => with_slave(regs, byte * 16 + regs.slave % 16),
         _ => mcr_written(regs, v),
     }
 }
