@@ -68,20 +68,19 @@ impl Lent {
         ensures { Tells self word tbf.old tbf.new rbf.now result }
     {
         let register = (word / 0x0100_0000 % 16) as u8;
-        match word / 0x1000_0000 {
-            KIND_WRITE => {
-                if word / 256 % 65536 != 0 {
-                    return self.done(Err(Refusal::StrayBit));
-                }
-                self.write(register, (word % 256) as u8, tbf)
+        let kind = word / 0x1000_0000;
+        if kind == KIND_WRITE {
+            if word / 256 % 65536 == 0 {
+                return self.write(register, (word % 256) as u8, tbf);
             }
-            KIND_READ => {
-                if word % 0x0100_0000 != 0 {
-                    return self.done(Err(Refusal::StrayBit));
-                }
-                self.read(register, rbf)
-            }
-            _ => self.done(Err(Refusal::UnknownKind)),
+            return self.done(Err(Refusal::StrayBit));
         }
+        if kind == KIND_READ {
+            if word % 0x0100_0000 == 0 {
+                return self.read(register, rbf);
+            }
+            return self.done(Err(Refusal::StrayBit));
+        }
+        self.done(Err(Refusal::UnknownKind))
     }
 }
