@@ -158,12 +158,9 @@ impl Lent {
         }
         // A refused word goes the same way on: with one of its own, a list run of slots takes more than twice as long.
         let after = self.word(word, tbf, rbf);
-        let lent = after.lent;
-        let came = after.came;
-        let drive = lent.drive();
         Answered {
-            lent,
-            answer: answer_to(came, drive),
+            lent: after.lent,
+            answer: answer_to(after.came, after.lent.drive()),
         }
     }
 }

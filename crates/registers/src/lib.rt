@@ -70,16 +70,12 @@ fn with_slre(mut regs: Registers, set: bool) -> Registers
 fn command(regs: Registers, v: u8) -> Registers
     ensures { result ≡ commanded regs v }
 {
-    if v == CMR_REQUEST {
-        return request_made(regs);
+    match v {
+        CMR_REQUEST => request_made(regs),
+        CMR_OFFER => with_strq(regs),
+        CMR_CLEAR_SLRE => with_slre(regs, false),
+        _ => lor_copied(regs),
     }
-    if v == CMR_OFFER {
-        return with_strq(regs);
-    }
-    if v == CMR_CLEAR_SLRE {
-        return with_slre(regs, false);
-    }
-    lor_copied(regs)
 }
 
 fn with_own(mut regs: Registers, own: u16) -> Registers

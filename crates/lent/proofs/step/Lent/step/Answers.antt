@@ -20,4 +20,4 @@ returns-then-word-agrees c =
     ∙ agreed_word (loan_in c.args.self c.args.tbf.now c.args.rbf.now) c.args.word tests.0 met.0 met.1)
 
 pub returns : goal.returns
-returns c = runs_came c.word-after.result _ c.word-after.ensures (c.drive-drive.ensures _ _) c.answer_to.ensures
+returns c = runs_came c.word-after.result _ c.word-after.ensures (c.drive.ensures _ _) c.answer_to.ensures
