@@ -148,8 +148,8 @@ runs {u} {w} {t} {t'} {r} {r'} {a} sent stored word =
     }
 
 -- the answer, from what the word came to and what is then driven
-pub runs_came : {u : Lent} {w : ℕ} {t t' r r' : List ℕ} (d : Done) (drive : ℕ) {answer : Answer}
+pub runs_said : {u : Lent} {w : ℕ} {t t' r r' : List ℕ} (d : Done) (drive : ℕ) {answer : Answer}
     → Works u w t t' r r' d → drive ≡ next_drive (state_in d.lent t' r') → answer ≡ answer_to d.came drive
     → Runs u w t t' r r' (record { lent = d.lent; answer = answer })
-runs_came d drive (sent, stored, word) driven said =
+runs_said d drive (sent, stored, word) driven said =
     runs sent stored (λ ft fr. rw (said, driven) (word ft fr))

@@ -9,6 +9,7 @@ use line::numbers::DRIVE_RELEASED;
 use moves::shifted;
 use place::{Field, Frame, Place};
 use rules::answer::Reply;
+use rules::state::Core;
 
 // A bit of a field that is shifted in: not the broadcast bit, P or A.
 #[tactic(auto, unfolding(crate::specs::Plain::inside_of))]
@@ -57,12 +58,15 @@ fn listened(frame: Frame, bit: bool) -> Frame
 
 impl Lent {
     // The level is taken in, and nothing else happens.
-    fn took(mut self, bit: bool) -> Lent
+    fn took(self, bit: bool) -> Lent
         ensures { result ≡ took_by self bit }
     {
-        self.core.frame = listened(self.core.frame, bit);
-        self.core.idle = false;
-        self
+        let core = Core {
+            frame: listened(self.core.frame, bit),
+            idle: false,
+            ..self.core
+        };
+        Lent { core, ..self }
     }
 
     // After a level that is only listened to, the line stays released.
