@@ -12,7 +12,8 @@ use registers::{read_value, write};
 use rules::answer::Refusal;
 
 impl Lent {
-    // An accepted write.
+    // An accepted write. What it changes is written in place, here and where a byte is read: with `..self` the rest is
+    // copied field by field, and each word of the host's pays for that.
     fn write_done(mut self, register: u8, v: u8, tbf: &mut [u8; TBF_BYTES]) -> Done
         ensures { Does self register v tbf.old tbf.new result }
     {
@@ -63,7 +64,7 @@ impl Lent {
         self.done(Ok(Outcome::Read(value)))
     }
 
-    // A word of the host's.
+    // A word of the host's. Each kind returns for itself: as the arms of a `match`, a read takes a quarter longer.
     pub(crate) fn told(self, word: u32, tbf: &mut [u8; TBF_BYTES], rbf: &[u8; RBF_BYTES]) -> Done
         ensures { Tells self word tbf.old tbf.new rbf.now result }
     {

@@ -31,8 +31,8 @@ pub struct Answered {
     pub answer: Answer,
 }
 
-// What a word leaves of a unit whose buffers are lent, and what it came to. No Result of the whole: a refused word hands
-// the unit on too, as `step` does, and where one of two whole units is picked, a host's word takes twice as long.
+// What a word leaves of a unit whose buffers are lent, and what it came to. No Result of the whole: a refused word too
+// hands the unit on, as `step` does; where one of two whole units is picked, a read takes half as long again.
 #[derive(Clone, Copy)]
 pub(crate) struct Done {
     pub lent: Lent,

@@ -18,6 +18,8 @@ use line::numbers::{
 };
 use rules::state::{Core, Registers};
 
+// This and the others that change one register write it in place: with `..regs` the rest is copied one by one, and each
+// word of the host's pays for that.
 fn with_lor(mut regs: Registers, lor1: u8, lor2: u8) -> Registers
     ensures { result ≡ registers·lor2 lor2 (registers·lor1 lor1 regs) }
 {
