@@ -2,15 +2,16 @@
 // `requires`, and nothing is assumed.
 #![tactic(auto)]
 
-ghost use Rattle.std.specs.Prelude.{◌≡◌};
+ghost use Rattle.std.specs.Prelude.{ℕ, Ok, ◌≡◌};
 ghost use Rattle.lists.specs.Bytes.{count_refusal};
-ghost use Rattle.answers.specs.Refused.{error_number, number_in};
+ghost use Rattle.answers.specs.Refused.{error_number, number_in, word_by};
+ghost use Rattle.rules.specs.Answers as ten;
 ghost use Rattle.rules.specs.Step.{refused_word, word_of};
 
 use line::numbers::{
     KIND_REFUSED, KIND_TAKEN, KIND_VALUE, KIND_WRITTEN, REFUSED_BYTE_COUNT, REFUSED_SHORT_LIST,
 };
-use rules::answer::{Answer, Reply};
+use rules::answer::{Refusal, Reply};
 use std::error::Error;
 use std::fmt;
 
@@ -47,6 +48,30 @@ impl fmt::Display for ListError {
 
 impl Error for ListError {}
 
+// What a refusal is told by: one of the ten, or any number itself.
+pub trait Numbered: Copy {
+    ghost number_of: { Self → ℕ };
+
+    fn number(self) -> u8
+        ensures { result ≡ number_of self };
+}
+
+impl Numbered for Refusal {
+    ghost number_of = { ten.number_of };
+
+    fn number(self) -> u8 {
+        Refusal::number(self)
+    }
+}
+
+impl Numbered for u8 {
+    ghost number_of = { λ n. n };
+
+    fn number(self) -> u8 {
+        self
+    }
+}
+
 #[tactic(auto, unfolding(rules::specs::Step::word_of))]
 fn reply_word(reply: Reply) -> u32
     ensures { result ≡ word_of (Ok reply) }
@@ -67,9 +92,8 @@ pub fn refused_word(number: u8) -> u32
 
 // "Answers: 8 slot taken, 9 written, 10 read (bits 7-0 value), 15 refused (bits 7-0 number). Kinds 8 to 10 carry in
 // bits 9-8 what the unit drives in the next slot".
-#[tactic(auto, unfolding(rules::specs::Step::word_of))]
-pub fn answer_word(answer: Answer) -> u32
-    ensures { result ≡ word_of answer }
+pub fn answer_word<R: Numbered>(answer: Result<Reply, R>) -> u32
+    ensures { result ≡ word_by R.number_of answer }
 {
     match answer {
         Ok(reply) => reply_word(reply),

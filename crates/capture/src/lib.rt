@@ -9,7 +9,7 @@ ghost use Rattle.pulses.specs.Relied.{Relied};
 ghost use Rattle.pulses.specs.Symbols.{bad_in, bad_pulse, slots_of, symbol_of, within};
 
 use line::numbers::{SLOT_HIGH, SLOT_IDLE, SLOT_LOW, SLOT_START};
-use pulses::{PulsesError, Range, Setting};
+use pulses::{HALF, PulsesError, Range, Setting};
 
 fn turned(r: Range) -> bool
     ensures { result ≡ turned r }
@@ -35,10 +35,11 @@ fn bad_ranges(s: Setting) -> bool
         | meet(s.one, s.start)
 }
 
+// A pulse's ends stay as wide as its word: by `Range::in_word`, of 16 bits each, a list took a third more instructions.
 fn bad_pulse(pulse: u32) -> bool
     ensures { result ≡ bad_pulse pulse }
 {
-    turned(Range::in_word(pulse))
+    pulse / HALF < pulse % HALF
 }
 
 // Whether some pulse has its least above its most. To look at every pulse and test once is cheaper than a test of each.
@@ -52,21 +53,21 @@ fn bad_pulses(pulses: &[u32]) -> bool
     bad
 }
 
-fn within(r: Range, pulse: Range) -> bool
-    ensures { result ≡ within r pulse.least pulse.most }
+fn within(r: Range, least: u32, most: u32) -> bool
+    ensures { result ≡ within r least most }
 {
-    (r.least <= pulse.least) & (pulse.most <= r.most)
+    (u32::from(r.least) <= least) & (most <= u32::from(r.most))
 }
 
 #[tactic(auto, unfolding(pulses::specs::Symbols::symbol_of))]
-fn symbol(s: Setting, pulse: Range) -> u32
-    ensures { result ≡ symbol_of s pulse.least pulse.most }
+fn symbol(s: Setting, least: u32, most: u32) -> u32
+    ensures { result ≡ symbol_of s least most }
 {
-    if within(s.zero, pulse) {
+    if within(s.zero, least, most) {
         SLOT_LOW
-    } else if within(s.one, pulse) {
+    } else if within(s.one, least, most) {
         SLOT_HIGH
-    } else if within(s.start, pulse) {
+    } else if within(s.start, least, most) {
         SLOT_START
     } else {
         SLOT_IDLE
@@ -80,7 +81,7 @@ fn put_slots(s: Setting, pulses: &[u32], slots: &mut [u32])
 {
     // no `slots.iter_mut().zip(pulses)`: tried, and nothing is known then of the slots that it wrote
     for (i, pulse) in pulses.iter().enumerate() {
-        slots[i] = symbol(s, Range::in_word(*pulse));
+        slots[i] = symbol(s, pulse % HALF, pulse / HALF);
     }
 }
 

@@ -74,6 +74,9 @@ held_full n k h = ⊎_elim (λ w. omega arith) (λ w. w.1) (picked k n k n)
 pub held_most : (n k : ℕ) → held_of n k ≤ n
 held_most n k = ⊎_elim (λ w. omega arith) (λ w. omega arith) (picked k n k n)
 
+pub held_some : (n k : ℕ) → 0 < n → 0 < k → 0 < held_of n k
+held_some n k h j = ⊎_elim (λ w. omega arith) (λ w. omega arith) (picked k n k n)
+
 -- ---- bytes
 
 pub items_length : (n : ℕ) (bytes : List ℕ) (k f : ℕ) → length (items n bytes f k) ≡ k
@@ -139,6 +142,9 @@ push_list n b x l = by (ltb b.span.count n) refl
     by false e =
         let full : length (list_of n b) ≡ n = items_length n b.bytes _ _ ∙ held_full n _ (ltb-false _ n e) in
         sym (pick_no (ltb (length (list_of n b)) n) _ _ (ap (λ (k : ℕ). ltb k n) full ∙ le-ltb n n (omega arith)))
+
+pub push_alike : (n x : ℕ) {a b : Buffer} → a ≡ b → pushed n a x ≡ pushed n b x
+push_alike n x e = ap (λ (c : Buffer). pushed n c x) e
 
 pub pop_list : (n : ℕ) (bytes : List ℕ) (span : Span)
     → circle_of n bytes (popped n span) ≡ drop 1 (circle_of n bytes span)

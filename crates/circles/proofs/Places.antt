@@ -12,7 +12,7 @@ use Rattle.circles.specs.Calls.{Call, push, take, empty, fewer, popped, pushed, 
 use Rattle.circles.specs.Circle.{Buffer, Unmoved, buffer, circle_of, gone_from, held_in, held_of, items, list_of}
 use Rattle.circles.specs.Circle.{place_in, start_of, wrap}
 use Rattle.circles.specs.declared.Span.{Span}
-use Rattle.circles.proofs.Circle.{held_most, held_same, items_length, start_less}
+use Rattle.circles.proofs.Circle.{held_most, held_same, held_some, items_length, start_less}
 use Rattle.circles.proofs.Circle.{start_same, wrap_apart, wrap_less, wrap_next, wrap_none}
 
 -- ---- places
@@ -38,6 +38,13 @@ byte_at room b k h =
     let most = held_most room b.span.count in
     items_at room b.bytes k (start_of room b.span.first) (held_in room b)
     (start_less room b.span.first (omega arith)) most h
+
+-- the oldest lies in the first place
+pub front_at : (room : ℕ) (b : Buffer) → 0 < room → 0 < b.span.count
+    → get_or b.bytes (start_of room b.span.first) 0 ≡ get_or (list_of room b) 0 0
+front_at room b h some =
+    let none = wrap_none room _ (start_less room b.span.first h) in
+    sym (byte_at room b 0 (held_some room b.span.count h some) ∙ ap (λ (place : ℕ). get_or b.bytes place 0) none)
 
 -- and there are no more in the list
 pub list_length : (room : ℕ) (b : Buffer) → length (list_of room b) ≡ held_in room b

@@ -13,9 +13,8 @@ use Rattle.line.specs.declared.slot.Slot.TheVariants.{Level, Start, Idle}
 use Rattle.line.proofs.Either.{either}
 use Rattle.lent.specs.Both.{after_done, after_host, after_read, after_slot, after_word, after_write}
 use Rattle.lent.specs.Both.{Both, Runs, Works, buffers_in, left_as, left_by, loan_in, looked_in, state_in}
-use Rattle.lent.specs.Both.{answer_to, lent_by}
+use Rattle.lent.specs.Both.{answer_to}
 use Rattle.rules.specs.Answers.{Answer}
-use Rattle.std.specs.Prelude.{Result}
 use Rattle.lent.specs.declared.step.Answered.{Answered}
 use Rattle.lent.specs.declared.step.Done.{Done}
 use Rattle.lent.specs.declared.step.Lent.{Lent}
@@ -149,10 +148,8 @@ runs {u} {w} {t} {t'} {r} {r'} {a} sent stored word =
     }
 
 -- the answer, from what the word came to and what is then driven
-pub runs_came : {u : Lent} {w : ℕ} {t t' r r' : List ℕ} (came : Result Done Refusal) (drive : ℕ) (answer : Answer)
-    → Works u w t t' r r' came → drive ≡ next_drive (state_in (lent_by u came) t' r') → answer ≡ answer_to came drive
-    → Runs u w t t' r r' (record { lent = lent_by u came; answer = answer })
-runs_came (Ok d) drive answer (sent, stored, word) driven said =
+pub runs_said : {u : Lent} {w : ℕ} {t t' r r' : List ℕ} (d : Done) (drive : ℕ) {answer : Answer}
+    → Works u w t t' r r' d → drive ≡ next_drive (state_in d.lent t' r') → answer ≡ answer_to d.came drive
+    → Runs u w t t' r r' (record { lent = d.lent; answer = answer })
+runs_said d drive (sent, stored, word) driven said =
     runs sent stored (λ ft fr. rw (said, driven) (word ft fr))
-runs_came (Err refusal) drive answer (sent, stored, word) driven said =
-    runs sent stored (λ ft fr. rw said (word ft fr))

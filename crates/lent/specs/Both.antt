@@ -81,29 +81,20 @@ reply_to took drive = Taken drive
 reply_to wrote drive = Written drive
 reply_to (read value) drive = Read value drive
 
-abbrev pub done : Lent → Outcome → Done
-done u outcome = record { lent = u; outcome = outcome }
+-- what any word came to
+abbrev pub answer_to : Result Outcome Refusal → ℕ → Answer
+answer_to (Ok outcome) drive = Ok (reply_to outcome drive)
+answer_to (Err refusal) drive = Err refusal
 
-abbrev pub done_in : Done → List ℕ → List ℕ → Both
-done_in d t r =
-    let l = loan_in d.lent t r in record { loan = l; answer = Ok (reply_to d.outcome (next_drive l.state)) }
+abbrev pub done : Lent → Result Outcome Refusal → Done
+done u came = record { lent = u; came = came }
+
+abbrev pub both_in : Done → List ℕ → List ℕ → Both
+both_in d t r =
+    let l = loan_in d.lent t r in record { loan = l; answer = answer_to d.came (next_drive l.state) }
 
 abbrev pub refused_in : Loan → Refusal → Both
 refused_in l refusal = record { loan = l; answer = Err refusal }
-
--- any word, of a unit that a refusal leaves as it was
-abbrev pub both_in : Lent → Result Done Refusal → List ℕ → List ℕ → Both
-both_in u (Ok d) t r = done_in d t r
-both_in u (Err refusal) t r = refused_in (loan_in u t r) refusal
-
--- the unit that is left, and the answer, with what it then drives
-abbrev pub lent_by : Lent → Result Done Refusal → Lent
-lent_by u (Ok d) = d.lent
-lent_by u (Err refusal) = u
-
-abbrev pub answer_to : Result Done Refusal → ℕ → Answer
-answer_to (Ok d) drive = Ok (reply_to d.outcome drive)
-answer_to (Err refusal) drive = Err refusal
 
 -- what it comes to where something may be found against it
 abbrev pub looked_in : Loan → Looked → Both → Both
@@ -228,41 +219,41 @@ SlotActs u c t acted = (r : List ℕ) → acted ≡ slot_acted (state_in u t r) 
 abbrev pub Acts : Lent → Acted → List ℕ → List ℕ → Done → Type 0
 Acts u acted r r' d =
     (length r' ≡ length r)
-    × ((t : List ℕ) → length r ≡ rbf_bytes → done_in d t r' ≡ taken_in (loan_acted (loan_in u t r) acted))
+    × ((t : List ℕ) → length r ≡ rbf_bytes → both_in d t r' ≡ taken_in (loan_acted (loan_in u t r) acted))
 
-abbrev pub SlotsOn : Lent → Slot → List ℕ → List ℕ → List ℕ → Result Done Refusal → Type 0
+abbrev pub SlotsOn : Lent → Slot → List ℕ → List ℕ → List ℕ → Done → Type 0
 SlotsOn u c t r r' d =
-    (length r' ≡ length r) × (length r ≡ rbf_bytes → both_in u d t r' ≡ after_slot (loan_in u t r) c)
+    (length r' ≡ length r) × (length r ≡ rbf_bytes → both_in d t r' ≡ after_slot (loan_in u t r) c)
 
 -- TBF before and after
 abbrev pub Does : Lent → ℕ → ℕ → List ℕ → List ℕ → Done → Type 0
 Does u register v t t' d =
     (length t' ≡ length t)
-    × ((r : List ℕ) → length t ≡ tbf_bytes → done_in d t' r ≡ after_done (loan_in u t r) register v)
+    × ((r : List ℕ) → length t ≡ tbf_bytes → both_in d t' r ≡ after_done (loan_in u t r) register v)
 
-abbrev pub WritesTo : Lent → ℕ → ℕ → List ℕ → List ℕ → Result Done Refusal → Type 0
+abbrev pub WritesTo : Lent → ℕ → ℕ → List ℕ → List ℕ → Done → Type 0
 WritesTo u register v t t' d =
     (length t' ≡ length t)
-    × ((r : List ℕ) → length t ≡ tbf_bytes → both_in u d t' r ≡ after_write (loan_in u t r) register v)
+    × ((r : List ℕ) → length t ≡ tbf_bytes → both_in d t' r ≡ after_write (loan_in u t r) register v)
 
 abbrev pub TakesOut : Lent → List ℕ → Done → Type 0
 TakesOut u r d =
-    (t : List ℕ) → done_in d t r ≡ gave_in (loan_drawn (loan_in u t r)) (get_or (circle_of rbf_bytes r u.rbf) 0 0)
+    (t : List ℕ) → both_in d t r ≡ gave_in (loan_drawn (loan_in u t r)) (get_or (circle_of rbf_bytes r u.rbf) 0 0)
 
 -- whatever value stands in the word
-abbrev pub ReadsFrom : Lent → ℕ → List ℕ → Result Done Refusal → Type 0
-ReadsFrom u register r d = (t : List ℕ) (v : ℕ) → both_in u d t r ≡ after_read (loan_in u t r) register v
+abbrev pub ReadsFrom : Lent → ℕ → List ℕ → Done → Type 0
+ReadsFrom u register r d = (t : List ℕ) (v : ℕ) → both_in d t r ≡ after_read (loan_in u t r) register v
 
-abbrev pub Tells : Lent → ℕ → List ℕ → List ℕ → List ℕ → Result Done Refusal → Type 0
+abbrev pub Tells : Lent → ℕ → List ℕ → List ℕ → List ℕ → Done → Type 0
 Tells u word t t' r d =
-    (length t' ≡ length t) × (length t ≡ tbf_bytes → both_in u d t' r ≡ after_host (loan_in u t r) word)
+    (length t' ≡ length t) × (length t ≡ tbf_bytes → both_in d t' r ≡ after_host (loan_in u t r) word)
 
 -- ---- a word
 
-abbrev pub Works : Lent → ℕ → List ℕ → List ℕ → List ℕ → List ℕ → Result Done Refusal → Type 0
+abbrev pub Works : Lent → ℕ → List ℕ → List ℕ → List ℕ → List ℕ → Done → Type 0
 Works u w t t' r r' d =
     (length t' ≡ length t) × (length r' ≡ length r)
-    × (length t ≡ tbf_bytes → length r ≡ rbf_bytes → both_in u d t' r' ≡ after_word (loan_in u t r) w)
+    × (length t ≡ tbf_bytes → length r ≡ rbf_bytes → both_in d t' r' ≡ after_word (loan_in u t r) w)
 
 -- the buffers after it have as many bytes as before; and where they are lent with all their bytes, state and answer
 -- are those of the rules, all that is left is that of the definition, each place of the arrays included, and this is

@@ -2,7 +2,6 @@
 ghost use Rattle.std.specs.Prelude.{◌≡◌};
 ghost use Rattle.lent.specs.Both.{answer_to, reply_to};
 
-use crate::step::Done;
 use rules::answer::{Answer, Refusal, Reply};
 
 // What an accepted word came to: its answer, but for what the unit drives next.
@@ -26,11 +25,11 @@ impl Outcome {
 }
 
 // The answer to a word, from what it came to and what the unit then drives.
-pub(crate) fn answer_to(came: Result<Done, Refusal>, drive: u8) -> Answer
+pub(crate) fn answer_to(came: Result<Outcome, Refusal>, drive: u8) -> Answer
     ensures { result ≡ answer_to came drive }
 {
     match came {
-        Ok(done) => Ok(done.outcome.reply(drive)),
+        Ok(outcome) => Ok(outcome.reply(drive)),
         Err(refusal) => Err(refusal),
     }
 }

@@ -1,7 +1,7 @@
 // A unit whose buffers are lent, and what it makes of every word.
 ghost use Rattle.std.specs.Prelude.{◌≡◌};
 ghost use Rattle.lent.specs.Both.{Acts, Clashes, Drives, Runs, Sees, SlotActs, SlotRefuses, SlotsOn};
-ghost use Rattle.lent.specs.Both.{Works, done, lent_by, reset_lent};
+ghost use Rattle.lent.specs.Both.{Works, done, reset_lent};
 
 use crate::answer::{Outcome, answer_to};
 use crate::buffers::{count_of, front, is_clear, rbf_after, tbf_after};
@@ -31,11 +31,12 @@ pub struct Answered {
     pub answer: Answer,
 }
 
-// What an accepted word leaves of a unit whose buffers are lent, and what it came to.
+// What a word leaves of a unit whose buffers are lent, and what it came to. No Result of the whole: a refused word too
+// hands the unit on, as `step` does; where one of two whole units is picked, a read takes half as long again.
 #[derive(Clone, Copy)]
 pub(crate) struct Done {
     pub lent: Lent,
-    pub outcome: Outcome,
+    pub came: Result<Outcome, Refusal>,
 }
 
 impl Lent {
@@ -70,14 +71,11 @@ impl Lent {
         }
     }
 
-    // What an accepted word came to; `step` adds what is driven next.
-    pub(crate) fn done(self, outcome: Outcome) -> Done
-        ensures { result ≡ done self outcome }
+    // What a word came to; `step` adds what is driven next.
+    pub(crate) fn done(self, came: Result<Outcome, Refusal>) -> Done
+        ensures { result ≡ done self came }
     {
-        Done {
-            lent: self,
-            outcome,
-        }
+        Done { lent: self, came }
     }
 
     // A slot is taken: what it did to the scalars, and what it does to the buffers.
@@ -91,7 +89,7 @@ impl Lent {
             tbf: sent,
             rbf: stored,
         };
-        lent.done(Outcome::Taken)
+        lent.done(Ok(Outcome::Taken))
     }
 
     // "Level 1 while the unit drives 0".
@@ -124,44 +122,26 @@ impl Lent {
         on_slot(self.core, Some(slot), self.seen(tbf))
     }
 
-    fn slot(
-        self,
-        slot: Slot,
-        tbf: &[u8; TBF_BYTES],
-        rbf: &mut [u8; RBF_BYTES],
-    ) -> Result<Done, Refusal>
+    fn slot(self, slot: Slot, tbf: &[u8; TBF_BYTES], rbf: &mut [u8; RBF_BYTES]) -> Done
         ensures { SlotsOn self slot tbf.now rbf.old rbf.new result }
     {
-        self.check_slot(slot)?;
-        Ok(self.acted_on(self.slot_acted(slot, tbf), rbf))
+        if let Err(refusal) = self.check_slot(slot) {
+            return self.done(Err(refusal));
+        }
+        self.acted_on(self.slot_acted(slot, tbf), rbf)
     }
 
     // The unit after a word, and what the word came to; where it is refused, the unit is as it was.
-    fn word(
-        self,
-        word: u32,
-        tbf: &mut [u8; TBF_BYTES],
-        rbf: &mut [u8; RBF_BYTES],
-    ) -> Result<Done, Refusal>
+    fn word(self, word: u32, tbf: &mut [u8; TBF_BYTES], rbf: &mut [u8; RBF_BYTES]) -> Done
         ensures { Works self word tbf.old tbf.new rbf.old rbf.new result }
     {
         if word / 0x1000_0000 != KIND_SLOT {
             return self.told(word, tbf, rbf);
         }
         let Some(slot) = slot_of(word) else {
-            return Err(Refusal::StrayBit);
+            return self.done(Err(Refusal::StrayBit));
         };
         self.slot(slot, tbf, rbf)
-    }
-
-    // The unit that a word leaves: one that is refused leaves it as it was.
-    fn left_by(self, came: Result<Done, Refusal>) -> Lent
-        ensures { result ≡ lent_by self came }
-    {
-        match came {
-            Ok(done) => done.lent,
-            Err(_) => self,
-        }
     }
 
     // The unit after a word, and what it is answered; its buffers are lent, and of these no place is written but where
@@ -177,11 +157,10 @@ impl Lent {
             return self.agreed(word == SLOT_HIGH);
         }
         // A refused word goes the same way on: with one of its own, a list run of slots takes more than twice as long.
-        let came = self.word(word, tbf, rbf);
-        let lent = self.left_by(came);
+        let after = self.word(word, tbf, rbf);
         Answered {
-            lent,
-            answer: answer_to(came, lent.drive()),
+            lent: after.lent,
+            answer: answer_to(after.came, after.lent.drive()),
         }
     }
 }

@@ -5,3 +5,4 @@ pub mod Filled
 pub mod Places
 pub mod Placed
 pub mod First
+pub mod Looked

@@ -7,6 +7,7 @@ ghost use Rattle.list_run.specs.Run.{RunsSpelled, number_of, unit_left, unit_or,
 use answers::{ListError, answer_word, check_bytes};
 use lent::step::Lent;
 use line::numbers::{RBF_BYTES, TBF_BYTES};
+use rules::answer::Refusal;
 use unit::step::Unit;
 
 // How many bytes spell a word.
@@ -51,7 +52,7 @@ fn run_spelled(
             put_word(answers, at, answer_word(after.answer));
             continue;
         };
-        put_word(answers, at, answer_word(Ok(reply)));
+        put_word(answers, at, answer_word::<Refusal>(Ok(reply)));
     }
     lent
 }

@@ -7,6 +7,7 @@ ghost use Rattle.list_run.specs.Run.{RunsLent, number_of, unit_left, unit_or};
 use answers::{ListError, answer_word};
 use lent::step::Lent;
 use line::numbers::{RBF_BYTES, TBF_BYTES};
+use rules::answer::Refusal;
 use unit::step::Unit;
 
 // The words run in order by a unit whose buffers are lent; what stands past the last answer is kept.
@@ -29,7 +30,7 @@ fn run_lent(
             answers[i] = answer_word(after.answer);
             continue;
         };
-        answers[i] = answer_word(Ok(reply));
+        answers[i] = answer_word::<Refusal>(Ok(reply));
     }
     lent
 }

@@ -41,13 +41,14 @@ impl fmt::Display for LogError {
 
 impl Error for LogError {}
 
-// Whether some word is no slot word. To look at every word and test once is cheaper than a test of each.
+// Whether some word is no slot word. The words are laid over each other: slot words then make a slot word, and a word
+// that is none leaves a digit that no slot word has. To look at every word and test once is cheaper than a test of each.
 pub fn strays(slots: &[u32]) -> bool
     ensures { result ≡ stray_in slots.now }
 {
-    let mut found = false;
+    let mut digits = 0;
     for slot in slots {
-        found |= SLOT_IDLE < *slot;
+        digits |= *slot;
     }
-    found
+    SLOT_IDLE < digits
 }

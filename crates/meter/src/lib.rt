@@ -31,7 +31,7 @@ fn busy(slot: u32) -> u32
 pub fn busy_of(slots: &[u32]) -> usize
     ensures { result ≡ busy_of slots.now }
 {
-    slots.iter().filter(|slot| **slot != SLOT_IDLE).count()
+    slots.iter().map(|slot| busy(*slot) as usize).sum()
 }
 
 // What leaves the window with the slot at a place: the slot that came w before it.

@@ -11,7 +11,7 @@ use std::error::Error;
 use std::fmt;
 
 // The least and the most are the halves of a word.
-const HALF: u32 = 0x1_0000;
+pub const HALF: u32 = 0x1_0000;
 
 // A closed range of widths, in ticks.
 #[derive(Clone, Copy)]

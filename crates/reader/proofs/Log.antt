@@ -7,7 +7,8 @@ use native.Mathlib.Omega.{arith}
 use borrow.Author.Tests.{eq-eqb, le-ltb, lt-ltb}
 use lib.ListN.{drop, get_or, length, length-drop, take}
 use lib.Seq.{drop-drop, length-take-le, take_at}
-use Rattle.std.proofs.Common.{Err, None, Ok, Option, Some}
+use Rattle.std.specs.Option.{unwrap_or}
+use Rattle.std.proofs.Common.{Err, MatchOption, None, Ok, Option, Some}
 use Rattle.line.proofs.Filled.{Filled, all_filled, nothing_filled}
 use Rattle.line.proofs.Places.{cut}
 use Rattle.line.specs.Numbers.{slot_start}
@@ -49,8 +50,11 @@ piece_filled {whole} {first} {now} {rest} {i} piece f room =
 abbrev words_from : Bool → Option Reading → List ℕ → ℕ → List ℕ
 words_from long before slots at = words_of (marked_after before (map (read_of long) (frames_of (drop at slots))))
 
+-- the frames before the start that is found, if there is one, are written
 pub record SoFar (long : Bool) (slots first records : List ℕ) (frames next : ℕ) (entry : Option Entry)
-    (from : ℕ) : Type 0 where
+    (start : Option ℕ) : Type 0 where
+  pub from : ℕ
+  pub found : MatchOption start (frames_of (drop from slots) ≡ []) (NextStart slots from)
   pub before : Option Reading
   pub stands : StandsBefore before entry records
   pub filled : Filled (words_of (records_of long slots)) first records (words_from long before slots from) next
@@ -60,10 +64,14 @@ pub record SoFar (long : Bool) (slots first records : List ℕ) (frames next : �
   pub inside : from ≤ length slots
   pub behind : EndsBy entry next
 
-pub so_far_none : (long : Bool) (slots first : List ℕ) → SoFar long slots first first 0 0 None 0
+pub so_far_none : (long : Bool) (slots first : List ℕ) (start : Option ℕ)
+    → MatchOption start (frames_of (drop 0 slots) ≡ []) (NextStart slots 0)
+    → SoFar long slots first first 0 0 None start
 unfolding records_by
-so_far_none long slots first =
+so_far_none long slots first start found =
     record {
+      from = 0;
+      found = found;
       before = None;
       stands = tt;
       filled = nothing_filled (words_of (records_of long slots)) first;
@@ -74,9 +82,24 @@ so_far_none long slots first =
       behind = tt;
     }
 
-module _ {long : Bool} {slots first records : List ℕ} {frames next : ℕ} {entry : Option Entry} {from : ℕ}
-    (s : SoFar long slots first records frames next entry from) {at : ℕ} (start : NextStart slots from at)
-    (room : length slots ≤ length first) {end : ℕ} (e : LevelsEnd slots (at + 1) end) where
+-- the start that is found is in the log
+pub start_inside : {long : Bool} {slots first records : List ℕ} {frames next : ℕ} {entry : Option Entry} {at : ℕ}
+    → SoFar long slots first records frames next entry (Some at) → at < length slots
+start_inside {long} {slots} {first} {records} {frames} {next} {entry} {at} s =
+    let start : NextStart slots s.from at = s.found in start.inside
+
+module _ {long : Bool} {slots first records : List ℕ} {frames next : ℕ} {entry : Option Entry} {at : ℕ}
+    (s : SoFar long slots first records frames next entry (Some at)) (room : length slots ≤ length first) {end : ℕ}
+    (e : LevelsEnd slots (at + 1) end) where
+  start : NextStart slots s.from at
+  start = s.found
+
+  -- the starts behind the frame are nearer to the end
+  pub nearer : (later : Option ℕ) → MatchOption later (frames_of (drop end slots) ≡ []) (NextStart slots end)
+      → length slots - unwrap_or later (length slots) < length slots - at
+  nearer None over = omega (arith, start.inside)
+  nearer (Some place) next = omega (arith, start.inside, e.within.ahead, next.ahead, next.inside)
+
   abbrev levels : List ℕ
   levels = take (end - (at + 1)) (drop (at + 1) slots)
 
@@ -93,14 +116,14 @@ module _ {long : Bool} {slots first records : List ℕ} {frames next : ℕ} {ent
       omega (arith, levels_long, s.ahead, s.filled.long, start.ahead, start.inside, e.within.ahead, e.within.inside)
 
   -- the frame at hand, and those behind it
-  frames_there : frames_of (drop from slots) ≡ levels ∷ frames_of (drop end slots)
+  frames_there : frames_of (drop s.from slots) ≡ levels ∷ frames_of (drop end slots)
   unfolding frames_of
   frames_there =
       start.passed ∙ ap frames_of (cut slots at start.inside)
       ∙ simp (eq-eqb (get_or slots at 0) slot_start start.there)
       (ap₂ (λ (l : List ℕ) (ls : List (List ℕ)). l ∷ ls) e.levels e.passed)
 
-  words_there : words_from long s.before slots from
+  words_there : words_from long s.before slots s.from
       ≡ record_words (record_of long levels (again_after s.before (read_of long levels)))
       ++ words_from long (Some (read_of long levels)) slots end
   unfolding words_of marked_by
@@ -122,11 +145,14 @@ module _ {long : Bool} {slots first records : List ℕ} {frames next : ℕ} {ent
 
   pub so_far_one : {newer : Entry} {after : List ℕ}
       → RecordPut long levels next entry records newer after
-      → SoFar long slots first after (frames + 1) (newer.bytes + acked_in newer) (Some newer) end
-  so_far_one {newer} {after} put =
+      → (later : Option ℕ) → MatchOption later (frames_of (drop end slots) ≡ []) (NextStart slots end)
+      → SoFar long slots first after (frames + 1) (newer.bytes + acked_in newer) (Some newer) later
+  so_far_one {newer} {after} put later found =
       let mark = again_after s.before (read_of long levels) in
       let words = record_words (record_of long levels mark) in
       record {
+        from = end;
+        found = found;
         before = Some (read_of long levels);
         stands = put.stands;
         filled =
@@ -140,13 +166,13 @@ module _ {long : Bool} {slots first records : List ℕ} {frames next : ℕ} {ent
         behind = omega arith;
       }
 
-pub so_far_all : {long : Bool} {slots first records : List ℕ} {frames next : ℕ} {entry : Option Entry} {from : ℕ}
-    → SoFar long slots first records frames next entry from → frames_of (drop from slots) ≡ []
-    → length slots ≤ length first
+pub so_far_all : {long : Bool} {slots first records : List ℕ} {frames next : ℕ} {entry : Option Entry}
+    → SoFar long slots first records frames next entry None → length slots ≤ length first
     → (frames ≡ length (frames_of slots))
     × (records ≡ words_of (records_of long slots) ++ drop (length (words_of (records_of long slots))) first)
 unfolding words_of marked_by
-so_far_all {long} {slots} {first} {records} {frames} {next} {entry} {from} s over room =
+so_far_all {long} {slots} {first} {records} {frames} {next} {entry} s room =
+    let over : frames_of (drop s.from slots) ≡ [] = s.found in
     let whole = words_of (records_of long slots) in
     let done : Filled whole first records [] next = rw (ap (λ (ls : List (List ℕ)). words_of
     (marked_after s.before (map (read_of long) ls))) over) at s.filled in

@@ -47,6 +47,13 @@ front_length front first = by (ltb front.given 2)
     by true = refl
     by false = refl
 
+pub front_two_most : (given : ℕ) → front_words given ≤ 2
+front_two_most given = by (ltb given 2)
+  where
+    by : (few : Bool) → pick few 1 2 ≤ 2
+    by true = omega arith
+    by false = omega arith
+
 -- ---- the bytes of the records, beside a piece that is written
 
 -- bytes that end before a piece
@@ -93,6 +100,11 @@ words_counted long levels again =
     let all = ap length (record-words long levels again 0) ∙ length-append front (byte_words long levels) in
     let bytes = length-map (read_of long levels).text.acked byte_word in
     omega (arith, all, bytes, front_length (entry_in long levels 0).front first)
+
+-- the words before the bytes have their slots
+pub front_most : (levels : List ℕ) {head : Head} → head ≡ head_of levels → front_words head.front.given ≤ 1 + length levels
+front_most levels {head} is =
+    rw is (omega (arith, words_counted false levels false, record_fits false levels false))
 
 -- a record is being put from a place on: its bytes are written, behind room for the words that stand before them
 pub record Putting (long : Bool) (levels : List ℕ) (at : ℕ) (before : List ℕ) (head : Head) (front : ℕ) (body : Body)

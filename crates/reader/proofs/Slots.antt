@@ -10,7 +10,7 @@ use borrow.Author.Count.{below_more}
 use borrow.Author.Tests.{le-ltb, lt-ltb, ne_eqb}
 use lib.Bits.{and_le_l, and_le_r, bit_or, or_add_and, or_lt}
 use lib.ListN.{get_or-eq_default, drop, drop_of_length-le, get_or, length, length-drop, length-take, take}
-use lib.Seq.{get_or-drop, get_or-take, slice, take-suc, take_all}
+use lib.Seq.{get_or-drop, get_or-take, slice, slice_empty, take-suc, take_all}
 use Rattle.std.specs.List.{AllWithin, HoldsAt}
 use Rattle.std.specs.Slice.Iter.{iter_rest}
 use Rattle.std.proofs.iter.Yields.{fronts}
@@ -43,6 +43,9 @@ overlaid_one {words} {digits} {i} o =
 pub record Searched (slots : List ℕ) (from i : ℕ) : Type 0 where
   pub within : Within slots from i
   pub passed : frames_of (drop from slots) ≡ frames_of (drop i slots)
+
+pub searched_none : (slots : List ℕ) (from : ℕ) → from ≤ length slots → Searched slots from from
+searched_none slots from h = record { within = record { ahead = omega arith; inside = h }; passed = refl }
 
 searched_one : {slots : List ℕ} {from i : ℕ} → Searched slots from i → i < length slots
     → (get_or slots i 0 ≡ slot_start → ⊥) → Searched slots from (i + 1)
@@ -77,9 +80,6 @@ yields_behind slots from rest =
     (rest ∙ take_all (length slots - from) (drop from slots) (omega (arith, length-drop from slots)))
 
 module _ (slots : List ℕ) (from : ℕ) (inside : from ≤ length slots) where
-  searched_none : Searched slots from from
-  searched_none = record { within = record { ahead = omega arith; inside = inside }; passed = refl }
-
   pub start_there : {k : ℕ} → (k < length (drop from slots)) × HoldsAt (λ x. x ≡ slot_start) (drop from slots) k
       × AllWithin (λ x. x ≡ slot_start → ⊥) (drop from slots) 0 k → NextStart slots from (from + k)
   start_there {k} (there, is, none) =
@@ -87,7 +87,7 @@ module _ (slots : List ℕ) (from : ℕ) (inside : from ≤ length slots) where
       record {
         ahead = omega arith;
         inside = within;
-        passed = (searched_ahead k searched_none (omega (arith, within)) none).passed;
+        passed = (searched_ahead k (searched_none slots from inside) (omega (arith, within)) none).passed;
         there = sym (get_or-drop from slots k 0) ∙ is 0;
       }
 
@@ -95,7 +95,7 @@ module _ (slots : List ℕ) (from : ℕ) (inside : from ≤ length slots) where
       → frames_of (drop from slots) ≡ []
   start_nowhere none =
       let all : from + length (drop from slots) ≡ length slots = omega (arith, inside, length-drop from slots) in
-      let s = searched_ahead (length (drop from slots)) searched_none (omega (arith, all)) none in
+      let s = searched_ahead (length (drop from slots)) (searched_none slots from inside) (omega (arith, all)) none in
       searched_all s (omega (arith, all))
 
 -- ---- levels_end
@@ -104,7 +104,14 @@ pub record Followed (slots : List ℕ) (from i : ℕ) : Type 0 where
   pub searched : Searched slots from i
   pub levels : levels_from (drop from slots) ≡ slice from i slots ++ levels_from (drop i slots)
 
-followed_one : {slots : List ℕ} {from i : ℕ} → Followed slots from i → i < length slots
+pub followed_none : (slots : List ℕ) (from : ℕ) → from ≤ length slots → Followed slots from from
+followed_none slots from h =
+    record {
+      searched = searched_none slots from h;
+      levels = ap (λ (l : List ℕ). l ++ levels_from (drop from slots)) (sym (slice_empty from slots));
+    }
+
+pub followed_one : {slots : List ℕ} {from i : ℕ} → Followed slots from i → i < length slots
     → get_or slots i 0 < slot_start → Followed slots from (i + 1)
 unfolding levels_from
 followed_one {slots} {from} {i} f more low =
@@ -144,40 +151,15 @@ ended {slots} {from} {i} f none =
           ∙ sym (part slots from (i - from) (omega arith) ∙ ap (λ (n : ℕ). slice from n slots) all);
     }
 
-followed_here : {slots : List ℕ} {from i : ℕ} → Followed slots from i → i < length slots
+pub followed_here : {slots : List ℕ} {from i : ℕ} → Followed slots from i → i < length slots
     → slot_start ≤ get_or slots i 0 → LevelsEnd slots from i
 unfolding levels_from
 followed_here {slots} {from} {i} f more high =
     ended f (ap levels_from (cut slots i more) ∙ simp (le-ltb (get_or slots i 0) slot_start high))
 
-followed_all : {slots : List ℕ} {from i : ℕ} → Followed slots from i → i ≡ length slots
-    → LevelsEnd slots from (length slots)
+pub followed_all : {slots : List ℕ} {from i : ℕ} → Followed slots from i → length slots ≤ i → LevelsEnd slots from i
 unfolding levels_from
-followed_all {slots} {from} {i} f all =
-    rw (← all) (ended f (ap levels_from (drop_of_length-le slots {i = i} (omega arith))))
-
-module _ {slots : List ℕ} {from i : ℕ} (f : Followed slots from i) where
-  levels_ahead : (count : ℕ) → i + count ≤ length slots → AllWithin (λ x. x < slot_start) (drop i slots) 0 count
-      → LevelsAhead count slots i
-  levels_ahead count room low = record {
-    there = room;
-    low = λ k below. rw (← get_or-drop i slots k 0) (low k 0 (omega arith) below);
-  }
-
-  pub end_there : {k : ℕ} → (k < length (drop i slots)) × HoldsAt (λ x. slot_start ≤ x) (drop i slots) k
-      × AllWithin (λ x. x < slot_start) (drop i slots) 0 k → LevelsEnd slots from (i + k)
-  end_there {k} (there, high, low) =
-      let within : i + k < length slots = omega (arith, there, length-drop i slots) in
-      followed_here (followed_ahead k f (levels_ahead k (omega (arith, within)) low)) within
-      (omega (arith, high 0, get_or-drop i slots k 0))
-
-  pub end_nowhere : AllWithin (λ x. x < slot_start) (drop i slots) 0 (length (drop i slots))
-      → LevelsEnd slots from (length slots)
-  end_nowhere low =
-      let all : i + length (drop i slots) ≡ length slots
-      = omega (arith, f.searched.within.inside, length-drop i slots) in
-      let rest = length (drop i slots) in
-      followed_all (followed_ahead rest f (levels_ahead rest (omega (arith, all)) low)) all
+followed_all {slots} {from} {i} f over = ended f (ap levels_from (drop_of_length-le slots {i = i} over))
 
 -- ---- number
 

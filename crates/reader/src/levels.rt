@@ -49,10 +49,14 @@ pub(crate) fn levels_end(slots: &[u32], from: usize) -> usize
     while eight_levels(slots, i) {
         i += 8;
     }
-    match slots[i..].iter().position(|slot| SLOT_HIGH < *slot) {
-        Some(ahead) => i + ahead,
-        None => slots.len(),
+    // by place, too: with `position` among the slots that are left, the eight before take two instructions more, and a
+    // frame six
+    for place in i..slots.len() {
+        if SLOT_HIGH < slots[place] {
+            return place;
+        }
     }
+    slots.len()
 }
 
 // The number that so many levels make, the highest bit first. What rests on it asks for `Low`, too: a type of levels

@@ -31,15 +31,17 @@ fn put_records(long: bool, slots: &[u32], records: &mut [u32]) -> usize
     let mut frames = 0;
     let mut next = 0;
     let mut before = None;
-    let mut from = 0;
-    // by hand: `split` at the starts would read each level twice, and `next` and `before` would be kept all the same
-    while let Some(start) = next_start(slots, from) {
-        let end = levels_end(slots, start + 1);
-        let entry = put_record(long, &slots[start + 1..end], records, next, before);
+    let mut start = next_start(slots, 0);
+    // by hand: `split` at the starts would read each level twice, and `next` and `before` would be kept all the same.
+    // The next start is sought at the end of a turn: where the loop's test seeks it, an idle slot takes eight
+    // instructions, and not five
+    while let Some(at) = start {
+        let end = levels_end(slots, at + 1);
+        let entry = put_record(long, &slots[at + 1..end], records, next, before);
         next = entry.bytes + entry.acked();
         before = Some(entry);
         frames += 1;
-        from = end;
+        start = next_start(slots, end);
     }
     frames
 }

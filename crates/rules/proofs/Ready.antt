@@ -6,8 +6,10 @@ use mathlib.Core.List.{List}
 use Prim.Native.Nat.{ℕ, ◌%◌}
 use borrow.Author.Tests.{not-false}
 use lib.Dec.{eqb, ltb}
-use Rattle.std.specs.Prelude.{Some}
+use Rattle.std.specs.Prelude.{Some, None}
+use Rattle.std.specs.declared.option.Option.{Option}
 use Rattle.line.specs.Choice.{pick}
+use Rattle.line.specs.Slot.{class_in}
 use Rattle.line.specs.declared.slot.Slot.{Slot}
 use Rattle.line.specs.declared.slot.Slot.TheVariants.{Level, Start, Idle}
 use Rattle.place.specs.Frame.{done_of, next_of, shifted_of, to_field, width_of}
@@ -33,7 +35,7 @@ use Rattle.rules.specs.Slots.{begun, byte_drawn, last_acked, length_drawn, next_
 use Rattle.rules.specs.Slots.{on_control_acked, on_event, on_idle, on_length_acked, on_level, on_lost, on_moved, on_slot}
 use Rattle.rules.specs.Slots.{on_start, sending_begun, wanted, with_code}
 use Rattle.rules.specs.State.{State, rbf_after, seen_of, view_of}
-use Rattle.rules.specs.Step.{acted_by, clashes, slot_on}
+use Rattle.rules.specs.Step.{acted_by, clashes, slot_on, step_as}
 use Rattle.rules.specs.declared.state.Act.TheVariants.{Nothing, Take}
 use Rattle.rules.specs.declared.state.Acted.{Acted}
 use Rattle.rules.specs.declared.state.Core.{Core}
@@ -272,10 +274,12 @@ on-level c bit seen e =
     let k = on_place (core·idle false c) seen e c.frame.place bit (view_of c.regs seen.clear) e in
     record { slre = k.slre; rbf = k.rbf }
 
-pub slot_ready : (s : State) (c : Slot) → receives s ≡ false → AsReady s (slot_on s c)
+-- also a slot word with an unnamed bit, which is no slot
+pub slot_ready : (s : State) (c : Option Slot) (w : ℕ) → receives s ≡ false → AsReady s (step_as (class_in c) s w)
 unfolding slot_on
-slot_ready s (Level bit) e =
+slot_ready s (Some (Level bit)) w e =
     pick_ind (AsReady s) (clashes s bit) _ _ (λ t. record { slre = refl; rbf = refl })
     (λ t. acted_ready s (Level bit) (on-level s.core bit _ e))
-slot_ready s Start e = acted_ready s Start (on-start s.core _ e)
-slot_ready s Idle e = acted_ready s Idle (on-idle s.core e)
+slot_ready s (Some Start) w e = acted_ready s Start (on-start s.core _ e)
+slot_ready s (Some Idle) w e = acted_ready s Idle (on-idle s.core e)
+slot_ready s None w e = record { slre = refl; rbf = refl }

@@ -7,6 +7,7 @@ use native.Mathlib.Omega.{arith}
 use borrow.Author.Tests.{eqb-true, not-true}
 use lib.Dec.{eqb}
 use lib.ListN.{length}
+use Rattle.std.specs.Prelude.{Some, None}
 use Rattle.line.specs.Numbers.{cmr_clear_slre, ctr_nothing, ctr_reset, ctr_set_slre, kind_read, kind_write, reg_cmr, reg_ctr}
 use Rattle.line.specs.Numbers.{reg_rbf, reg_sar1, reg_sar2, reg_tbf, reg_uar1, reg_uar2}
 use Rattle.line.specs.Slot.{Class, slot, stray, host, class_of, kind_of}
@@ -148,8 +149,8 @@ unfolding step_of Spares
 step_ready s w e = go (class_of w) e
   where
     go : (k : Class) → spares k s w ≡ true → AsReady s (step_as k s w)
-    go (slot c) e = slot_ready s c (not-true (receives s) e)
-    go stray e = record { slre = refl; rbf = refl }
+    go (slot c) e = slot_ready s (Some c) w (not-true (receives s) e)
+    go stray e = slot_ready s None w (not-true (receives s) e)
     go host e = host_ready s w (not-true (touches w) e)
 
 pub stays_ready : (s : State) (A : List ℕ) → undisturbed s A ≡ true → AsReady s (run unit s A)

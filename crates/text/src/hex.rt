@@ -1,5 +1,5 @@
 // A line of the listing: "word and answer in eight capital hexadecimal digits".
-ghost use Rattle.std.specs.Prelude.{◌≡◌};
+ghost use Rattle.std.specs.Prelude.{◌≡◌, length};
 ghost use Rattle.text.specs.Hex.{digit_of, hex_of, line_of};
 
 // How many digits show a word.
@@ -9,27 +9,27 @@ const DIGITS: usize = 8;
 pub const LINE_BYTES: usize = 18;
 
 // The capital digit of a number's lowest four bits. Not by a formatter: every byte of a listing is promised, and no
-// contract says what bytes one writes.
+// contract says what bytes one writes. A byte only at the end: that way several are worked out at a time.
 fn digit(n: u32) -> u8
     ensures { result ≡ digit_of n }
 {
-    let low = (n % 16) as u8;
+    let low = n % 16;
     if low < 10 {
-        b'0' + low
+        (48 + low) as u8
     } else {
-        b'A' + (low - 10)
+        (55 + low) as u8
     }
 }
 
-// The digits of a word, the highest first.
-fn digits(word: u32) -> [u8; DIGITS]
-    ensures { result ≡ hex_of 8 word }
+// The digits of a word, the highest first, go to a piece of eight bytes. No array of eight is handed out: it would be put
+// together in a register, digit by digit, at twice the cost.
+fn put_digits(word: u32, digits: &mut [u8])
+    requires { length digits.old ≡ 8 }
+    ensures { digits.new ≡ hex_of 8 word }
 {
-    let mut digits = [0; DIGITS];
     for (place, shown) in digits.iter_mut().enumerate() {
         *shown = digit(word >> (28 - 4 * place));
     }
-    digits
 }
 
 // The word, a space, the answer and the line's end.
@@ -37,8 +37,8 @@ pub(crate) fn line(word: u32, answer: u32) -> [u8; LINE_BYTES]
     ensures { result ≡ line_of word answer }
 {
     let mut line = [b' '; LINE_BYTES];
-    line[..DIGITS].copy_from_slice(&digits(word));
-    line[DIGITS + 1..LINE_BYTES - 1].copy_from_slice(&digits(answer));
+    put_digits(word, &mut line[..DIGITS]);
+    put_digits(answer, &mut line[DIGITS + 1..LINE_BYTES - 1]);
     line[LINE_BYTES - 1] = b'\n';
     line
 }

@@ -6,4 +6,4 @@ use Rattle.std.specs.List.{list_any}
 use Rattle.logs.proofs.strays.Given as goal
 
 abbrev pub invariant-loop-slot : goal.invariant-loop-slot
-invariant-loop-slot l = l.found ≡ list_any (ltb slot_idle) (take l.slot-index l.slots)
+invariant-loop-slot l = ltb slot_idle l.digits ≡ list_any (ltb slot_idle) (take l.slot-index l.slots)

@@ -2,6 +2,7 @@ use native.Mathlib.Omega.{arith}
 use mathlib.Core.Path.{sym, ap, ◌∙◌}
 use Prim.Native.Nat.{◌+◌}
 use Rattle.rules.specs.Step.{word_of}
+use Rattle.answers.proofs.Words.{word_by_ten}
 use Rattle.list_run.proofs.Spelled.{none_spelled_in, one_spelled_in, all_spelled_in}
 use Rattle.list_run.proofs.bytes.run_spelled.Goals as goal
 
@@ -13,7 +14,7 @@ pub loop-at-preserved-in_default : goal.loop-at-preserved-in_default
 loop-at-preserved-in_default c =
     rw c.put_word.ensures
     (one_spelled_in c.loop-at.invariant c.loop-at-test.true c.word_at.ensures c.step-after.ensures _
-    c.answer_word.ensures)
+    (c.answer_word.ensures ∙ word_by_ten _))
 
 pub loop-at-preserved : goal.loop-at-preserved
 loop-at-preserved c =
@@ -27,7 +28,7 @@ returns-in_default c =
     all_spelled_in {at = c.loop-at.at + 4}
     (rw c.put_word.ensures
     (one_spelled_in c.loop-at.invariant c.loop-at-test.true c.word_at.ensures c.step-after.ensures _
-    c.answer_word.ensures))
+    (c.answer_word.ensures ∙ word_by_ten _)))
     (omega arith)
 
 pub returns-in-Ok : goal.returns-in-Ok

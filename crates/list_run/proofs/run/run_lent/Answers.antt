@@ -1,12 +1,13 @@
 use mathlib.Core.Path.{sym, ap, ◌∙◌}
 use Rattle.rules.specs.Step.{word_of}
+use Rattle.answers.proofs.Words.{word_by_ten}
 use Rattle.list_run.proofs.Underway.{one_run_in, all_over, all_run}
 use Rattle.list_run.proofs.run.run_lent.Goals as goal
 
 pub loop-i-preserved-in_default : goal.loop-i-preserved-in_default
 loop-i-preserved-in_default c =
     one_run_in c.loop-i.invariant c.loop-i-test.true c.requires
-    c.step-after.ensures _ c.answer_word.ensures
+    c.step-after.ensures _ (c.answer_word.ensures ∙ word_by_ten _)
 
 pub loop-i-preserved : goal.loop-i-preserved
 loop-i-preserved c =

@@ -8,3 +8,6 @@ invariant-loop-i l = Followed l.slots l.from l.i
 
 abbrev pub decreases-loop-i : goal.decreases-loop-i
 decreases-loop-i l = length l.slots - l.i
+
+abbrev pub invariant-loop-place : goal.invariant-loop-place
+invariant-loop-place l = Followed l.slots l.from l.place

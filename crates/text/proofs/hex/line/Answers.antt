@@ -4,4 +4,4 @@ use Rattle.text.proofs.hex.line.Goals as goal
 pub returns : goal.returns
 unfolding line_of hex_of
 returns c =
-    rw (c.copy_from_slice.ensures.after, c.digits.ensures, c.copy_from_slice-2.ensures.after, c.digits-2.ensures)
+    rw (c.put_digits.ensures, c.put_digits-2.ensures)

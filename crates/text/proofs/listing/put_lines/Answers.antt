@@ -9,5 +9,5 @@ loop-i-init c =
 
 pub loop-i-preserved : goal.loop-i-preserved
 loop-i-preserved c =
-    let is = rw (c.word_at.ensures, c.word_at-in-loop-i.ensures) at c.line-listed.ensures in
+    let is = rw (c.whole_word_at.ensures, c.word_at.ensures) at c.line-listed.ensures in
     rw c.put-in-loop-i.ensures (one_more c.loop-i.invariant is (omega arith))

@@ -1,6 +1,6 @@
 use mathlib.Core.Path.{refl, sym, ◌∙◌}
 use Rattle.line.proofs.Either.{both}
-use Rattle.lent.proofs.Joins.{runs, runs_came}
+use Rattle.lent.proofs.Joins.{runs, runs_said}
 use Rattle.lent.proofs.Listening.{agreed_word, plain_word}
 use Rattle.lent.specs.Both.{loan_in}
 use Rattle.lent.proofs.step.Lent.step.Goals as goal
@@ -20,7 +20,4 @@ returns-then-word-agrees c =
     ∙ agreed_word (loan_in c.args.self c.args.tbf.now c.args.rbf.now) c.args.word tests.0 met.0 met.1)
 
 pub returns : goal.returns
-returns c =
-    rw c.left_by-lent.ensures
-    (runs_came c.word-came.result _ _ c.word-came.ensures
-    (rw c.left_by-lent.ensures at (c.drive.ensures c.word-came.new.tbf c.word-came.new.rbf)) c.answer_to.ensures)
+returns c = runs_said c.word-after.result _ c.word-after.ensures (c.drive.ensures _ _) c.answer_to.ensures

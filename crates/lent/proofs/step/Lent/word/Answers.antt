@@ -16,8 +16,8 @@ pub returns-in_default : goal.returns-in_default
 returns-in_default c = (
   refl,
   refl,
-  λ ft fr. step_stray (loan_in c.args.self c.args.tbf.now c.args.rbf.now) c.args.word
-      (eq-eqb _ _ c.if-word-ne-KIND_SLOT.false) c.in_default.ensures,
+  λ ft fr. rw c.done.ensures (step_stray (loan_in c.args.self c.args.tbf.now c.args.rbf.now) c.args.word
+      (eq-eqb _ _ c.if-word-ne-KIND_SLOT.false) c.in_default.ensures),
 )
 
 pub returns : goal.returns

@@ -1,0 +1,2 @@
+-- What the proofs above this library need of an answer's word.
+pub mod Words
