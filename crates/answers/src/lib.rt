@@ -83,8 +83,7 @@ fn reply_word(reply: Reply) -> u32
     }
 }
 
-// "15 refused (bits 7-0 number)", of any number.
-pub fn refused_word(number: u8) -> u32
+fn number_word(number: u8) -> u32
     ensures { result ≡ refused_word number }
 {
     KIND_REFUSED * 0x1000_0000 + number as u32 % 256
@@ -97,8 +96,15 @@ pub fn answer_word<R: Numbered>(answer: Result<Reply, R>) -> u32
 {
     match answer {
         Ok(reply) => reply_word(reply),
-        Err(refusal) => refused_word(refusal.number()),
+        Err(refusal) => number_word(refusal.number()),
     }
+}
+
+// "15 refused (bits 7-0 number)", of any number.
+pub fn refused_word(number: u8) -> u32
+    ensures { result ≡ refused_word number }
+{
+    answer_word(Err(number))
 }
 
 // Whether a run over so many bytes of words, and so many for answers, can be.

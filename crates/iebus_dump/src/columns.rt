@@ -32,12 +32,10 @@ pub(crate) fn given(ending: u32) -> u8
 pub(crate) fn digit(given: bool, n: u32) -> u8
     ensures { result ≡ digit_shown given n }
 {
-    // first, as a log of starts is mostly dashes: no digit is worked out for them
-    if !given {
-        return b'-';
-    }
     let low = n % 16;
-    if low < 10 {
+    if !given {
+        b'-'
+    } else if low < 10 {
         (48 + low) as u8
     } else {
         (55 + low) as u8

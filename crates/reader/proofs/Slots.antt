@@ -47,7 +47,7 @@ pub record Searched (slots : List ℕ) (from i : ℕ) : Type 0 where
 pub searched_none : (slots : List ℕ) (from : ℕ) → from ≤ length slots → Searched slots from from
 searched_none slots from h = record { within = record { ahead = omega arith; inside = h }; passed = refl }
 
-searched_one : {slots : List ℕ} {from i : ℕ} → Searched slots from i → i < length slots
+pub searched_one : {slots : List ℕ} {from i : ℕ} → Searched slots from i → i < length slots
     → (get_or slots i 0 ≡ slot_start → ⊥) → Searched slots from (i + 1)
 unfolding frames_of
 searched_one {slots} {from} {i} s more other =
@@ -56,7 +56,7 @@ searched_one {slots} {from} {i} s more other =
       passed = s.passed ∙ ap frames_of (cut slots i more) ∙ simp (ne_eqb (get_or slots i 0) slot_start other);
     }
 
-searched_all : {slots : List ℕ} {from i : ℕ} → Searched slots from i → length slots ≤ i
+pub searched_all : {slots : List ℕ} {from i : ℕ} → Searched slots from i → length slots ≤ i
     → frames_of (drop from slots) ≡ []
 unfolding frames_of
 searched_all {slots} {from} {i} s over = s.passed ∙ ap frames_of (drop_of_length-le slots {i = i} over)

@@ -15,9 +15,9 @@ fn digit(n: u32) -> u8
 {
     let low = n % 16;
     if low < 10 {
-        (48 + low) as u8
+        (u32::from(b'0') + low) as u8
     } else {
-        (55 + low) as u8
+        (u32::from(b'A') - 10 + low) as u8
     }
 }
 
