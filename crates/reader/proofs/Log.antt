@@ -50,11 +50,8 @@ piece_filled {whole} {first} {now} {rest} {i} piece f room =
 abbrev words_from : Bool → Option Reading → List ℕ → ℕ → List ℕ
 words_from long before slots at = words_of (marked_after before (map (read_of long) (frames_of (drop at slots))))
 
--- the frames before the start that is found, if there is one, are written
 pub record SoFar (long : Bool) (slots first records : List ℕ) (frames next : ℕ) (entry : Option Entry)
-    (start : Option ℕ) : Type 0 where
-  pub from : ℕ
-  pub found : MatchOption start (frames_of (drop from slots) ≡ []) (NextStart slots from)
+    (from : ℕ) : Type 0 where
   pub before : Option Reading
   pub stands : StandsBefore before entry records
   pub filled : Filled (words_of (records_of long slots)) first records (words_from long before slots from) next
@@ -64,14 +61,10 @@ pub record SoFar (long : Bool) (slots first records : List ℕ) (frames next : �
   pub inside : from ≤ length slots
   pub behind : EndsBy entry next
 
-pub so_far_none : (long : Bool) (slots first : List ℕ) (start : Option ℕ)
-    → MatchOption start (frames_of (drop 0 slots) ≡ []) (NextStart slots 0)
-    → SoFar long slots first first 0 0 None start
+pub so_far_none : (long : Bool) (slots first : List ℕ) → SoFar long slots first first 0 0 None 0
 unfolding records_by
-so_far_none long slots first start found =
+so_far_none long slots first =
     record {
-      from = 0;
-      found = found;
       before = None;
       stands = tt;
       filled = nothing_filled (words_of (records_of long slots)) first;
@@ -82,24 +75,9 @@ so_far_none long slots first start found =
       behind = tt;
     }
 
--- the start that is found is in the log
-pub start_inside : {long : Bool} {slots first records : List ℕ} {frames next : ℕ} {entry : Option Entry} {at : ℕ}
-    → SoFar long slots first records frames next entry (Some at) → at < length slots
-start_inside {long} {slots} {first} {records} {frames} {next} {entry} {at} s =
-    let start : NextStart slots s.from at = s.found in start.inside
-
-module _ {long : Bool} {slots first records : List ℕ} {frames next : ℕ} {entry : Option Entry} {at : ℕ}
-    (s : SoFar long slots first records frames next entry (Some at)) (room : length slots ≤ length first) {end : ℕ}
-    (e : LevelsEnd slots (at + 1) end) where
-  start : NextStart slots s.from at
-  start = s.found
-
-  -- the starts behind the frame are nearer to the end
-  pub nearer : (later : Option ℕ) → MatchOption later (frames_of (drop end slots) ≡ []) (NextStart slots end)
-      → length slots - unwrap_or later (length slots) < length slots - at
-  nearer None over = omega (arith, start.inside)
-  nearer (Some place) next = omega (arith, start.inside, e.within.ahead, next.ahead, next.inside)
-
+module _ {long : Bool} {slots first records : List ℕ} {frames next : ℕ} {entry : Option Entry} {from : ℕ}
+    (s : SoFar long slots first records frames next entry from) {at : ℕ} (start : NextStart slots from at)
+    (room : length slots ≤ length first) {end : ℕ} (e : LevelsEnd slots (at + 1) end) where
   abbrev levels : List ℕ
   levels = take (end - (at + 1)) (drop (at + 1) slots)
 
@@ -116,14 +94,14 @@ module _ {long : Bool} {slots first records : List ℕ} {frames next : ℕ} {ent
       omega (arith, levels_long, s.ahead, s.filled.long, start.ahead, start.inside, e.within.ahead, e.within.inside)
 
   -- the frame at hand, and those behind it
-  frames_there : frames_of (drop s.from slots) ≡ levels ∷ frames_of (drop end slots)
+  frames_there : frames_of (drop from slots) ≡ levels ∷ frames_of (drop end slots)
   unfolding frames_of
   frames_there =
       start.passed ∙ ap frames_of (cut slots at start.inside)
       ∙ simp (eq-eqb (get_or slots at 0) slot_start start.there)
       (ap₂ (λ (l : List ℕ) (ls : List (List ℕ)). l ∷ ls) e.levels e.passed)
 
-  words_there : words_from long s.before slots s.from
+  words_there : words_from long s.before slots from
       ≡ record_words (record_of long levels (again_after s.before (read_of long levels)))
       ++ words_from long (Some (read_of long levels)) slots end
   unfolding words_of marked_by
@@ -145,14 +123,11 @@ module _ {long : Bool} {slots first records : List ℕ} {frames next : ℕ} {ent
 
   pub so_far_one : {newer : Entry} {after : List ℕ}
       → RecordPut long levels next entry records newer after
-      → (later : Option ℕ) → MatchOption later (frames_of (drop end slots) ≡ []) (NextStart slots end)
-      → SoFar long slots first after (frames + 1) (newer.bytes + acked_in newer) (Some newer) later
-  so_far_one {newer} {after} put later found =
+      → SoFar long slots first after (frames + 1) (newer.bytes + acked_in newer) (Some newer) end
+  so_far_one {newer} {after} put =
       let mark = again_after s.before (read_of long levels) in
       let words = record_words (record_of long levels mark) in
       record {
-        from = end;
-        found = found;
         before = Some (read_of long levels);
         stands = put.stands;
         filled =
@@ -166,13 +141,13 @@ module _ {long : Bool} {slots first records : List ℕ} {frames next : ℕ} {ent
         behind = omega arith;
       }
 
-pub so_far_all : {long : Bool} {slots first records : List ℕ} {frames next : ℕ} {entry : Option Entry}
-    → SoFar long slots first records frames next entry None → length slots ≤ length first
+pub so_far_all : {long : Bool} {slots first records : List ℕ} {frames next : ℕ} {entry : Option Entry} {from : ℕ}
+    → SoFar long slots first records frames next entry from → frames_of (drop from slots) ≡ []
+    → length slots ≤ length first
     → (frames ≡ length (frames_of slots))
     × (records ≡ words_of (records_of long slots) ++ drop (length (words_of (records_of long slots))) first)
 unfolding words_of marked_by
-so_far_all {long} {slots} {first} {records} {frames} {next} {entry} s room =
-    let over : frames_of (drop s.from slots) ≡ [] = s.found in
+so_far_all {long} {slots} {first} {records} {frames} {next} {entry} {from} s over room =
     let whole = words_of (records_of long slots) in
     let done : Filled whole first records [] next = rw (ap (λ (ls : List (List ℕ)). words_of
     (marked_after s.before (map (read_of long) ls))) over) at s.filled in
@@ -180,6 +155,58 @@ so_far_all {long} {slots} {first} {records} {frames} {next} {entry} s room =
     ap length (done.split ∙ append-nil (take next records))
     ∙ length-take-le next records (omega (arith, s.ahead, s.inside, s.filled.long)) in
     (omega (arith, s.count, ap length over), rw long-whole (all_filled done))
+
+-- ---- the next start
+
+-- the frames before the start that is found, if there is one, are written
+pub record Sought (long : Bool) (slots first records : List ℕ) (frames next : ℕ) (entry : Option Entry)
+    (start : Option ℕ) : Type 0 where
+  pub from : ℕ
+  pub found : MatchOption start (frames_of (drop from slots) ≡ []) (NextStart slots from)
+  pub so_far : SoFar long slots first records frames next entry from
+
+pub sought_none : (long : Bool) (slots first : List ℕ) (start : Option ℕ)
+    → MatchOption start (frames_of (drop 0 slots) ≡ []) (NextStart slots 0)
+    → Sought long slots first first 0 0 None start
+sought_none long slots first start found =
+    record { from = 0; found = found; so_far = so_far_none long slots first }
+
+-- the start that is found is in the log
+pub start_inside : {long : Bool} {slots first records : List ℕ} {frames next : ℕ} {entry : Option Entry} {at : ℕ}
+    → Sought long slots first records frames next entry (Some at) → at < length slots
+start_inside {long} {slots} {first} {records} {frames} {next} {entry} {at} s =
+    let start : NextStart slots s.from at = s.found in start.inside
+
+module _ {long : Bool} {slots first records : List ℕ} {frames next : ℕ} {entry : Option Entry} {at : ℕ}
+    (s : Sought long slots first records frames next entry (Some at)) (room : length slots ≤ length first) {end : ℕ}
+    (e : LevelsEnd slots (at + 1) end) where
+  abbrev start : NextStart slots s.from at
+  start = s.found
+
+  -- the starts behind the frame are nearer to the end
+  pub nearer : (later : Option ℕ) → MatchOption later (frames_of (drop end slots) ≡ []) (NextStart slots end)
+      → length slots - unwrap_or later (length slots) < length slots - at
+  nearer None over = omega (arith, start.inside)
+  nearer (Some place) next = omega (arith, start.inside, e.within.ahead, next.ahead, next.inside)
+
+  -- the levels of the frame at hand; there is room for its record
+  abbrev frame : List ℕ
+  frame = levels s.so_far start room e
+
+  pub frame_fits : Low frame × (next + 1 + length frame ≤ length records)
+  frame_fits = (levels_there s.so_far start room e, record_room s.so_far start room e)
+
+  pub sought_one : {newer : Entry} {after : List ℕ}
+      → RecordPut long frame next entry records newer after
+      → (later : Option ℕ) → MatchOption later (frames_of (drop end slots) ≡ []) (NextStart slots end)
+      → Sought long slots first after (frames + 1) (newer.bytes + acked_in newer) (Some newer) later
+  sought_one put later found = record { from = end; found = found; so_far = so_far_one s.so_far start room e put }
+
+pub sought_all : {long : Bool} {slots first records : List ℕ} {frames next : ℕ} {entry : Option Entry}
+    → Sought long slots first records frames next entry None → length slots ≤ length first
+    → (frames ≡ length (frames_of slots))
+    × (records ≡ words_of (records_of long slots) ++ drop (length (words_of (records_of long slots))) first)
+sought_all s room = so_far_all s.so_far s.found room
 
 -- ---- read_log
 

@@ -1,10 +1,10 @@
 use native.Mathlib.Omega.{arith}
-use Rattle.reader.proofs.Log.{levels_there, nearer, record_room, so_far_all, so_far_none, so_far_one, start_inside}
+use Rattle.reader.proofs.Log.{frame_fits, nearer, sought_all, sought_none, sought_one, start_inside}
 use Rattle.reader.proofs.put_records.Goals as goal
 
 pub loop-start-init : goal.loop-start-init
 loop-start-init c =
-    so_far_none _ _ _ _ c.next_start-start.ensures
+    sought_none _ _ _ _ c.next_start-start.ensures
 
 pub overflow_add-at : goal.overflow_add-at
 overflow_add-at c =
@@ -16,8 +16,7 @@ levels_end-end-requires c =
 
 pub put_record-entry-requires-clause-low : goal.put_record-entry-requires-clause-low
 put_record-entry-requires-clause-low c =
-    let s = rw c.in-Some.is at c.loop-start.invariant in
-    (levels_there s c.requires c.levels_end-end.ensures, record_room s c.requires c.levels_end-end.ensures)
+    frame_fits (rw c.in-Some.is at c.loop-start.invariant) c.requires c.levels_end-end.ensures
 
 pub loop-start-smaller : goal.loop-start-smaller
 loop-start-smaller c =
@@ -28,9 +27,9 @@ loop-start-smaller c =
 pub loop-start-preserved : goal.loop-start-preserved
 loop-start-preserved c =
     rw c.acked.ensures
-    (so_far_one (rw c.in-Some.is at c.loop-start.invariant) c.requires c.levels_end-end.ensures
+    (sought_one (rw c.in-Some.is at c.loop-start.invariant) c.requires c.levels_end-end.ensures
     c.put_record-entry.ensures _ c.next_start-start-in-Some.ensures)
 
 pub returns-clause-records_after : goal.returns-clause-records_after
 returns-clause-records_after c =
-    let s = rw c.in_default.is at c.loop-start.invariant in (so_far_all s c.requires).1
+    let s = rw c.in_default.is at c.loop-start.invariant in (sought_all s c.requires).1
